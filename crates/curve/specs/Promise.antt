@@ -1,0 +1,47 @@
+-- What the dispatcher is promised of every contract, over every sequence of calls.
+use mathlib.Core.Path.{_≡_}
+use mathlib.Core.Logic.{_↔_}
+use mathlib.Core.List.{List, [], _∷_, reverse}
+use Prim.Native.Nat.{ℕ, _≤_}
+use lib.ListN.{length}
+use Rattle.std.specs.declared.option.Option.{Option}
+use Rattle.std.specs.declared.option.Option.the-variants.{None}
+use Rattle.contract.specs.declared.faults.Code.{Code}
+use Rattle.contract.specs.Meaning.{Meaning}
+use Rattle.contract.specs.Faults.{Refused, grant-refusal, unless-refused}
+use Rattle.curve.specs.Curve.{IsCurve, curve}
+use Rattle.curve.specs.Lawful.{Lawful}
+use Rattle.curve.specs.Reached.{Standing, standing, Reached}
+
+-- What an answer tells him who asked for the level y, of a contract that was new as `first` and has granted
+-- the past since.
+pub record Told (first : Meaning) (past : List ℕ) (y : ℕ) (answer : Option Code) : Type 0 where
+  -- a level up to the cap is turned down exactly if no lawful list begins with it
+  pub turned-down-if : y ≤ first .«cap» → Refused answer ↔ ((ys : List ℕ) → Lawful first past (y ∷ ys) → ⊥)
+  -- a level is granted exactly if for every length from one on some lawful list of that length begins with it
+  pub granted-if : (answer ≡ None) ↔ ((n : ℕ) → 1 ≤ n → (ys : List ℕ) × (length (y ∷ ys) ≡ n) × Lawful first past (y ∷ ys))
+
+-- What holds of a contract that was new as `first` and that calls have brought to s.
+pub record Dispatch (first : Meaning) (s : Standing) : Type 0 where
+  -- the curve is the greatest sum of needs over all ways to split a length
+  pub curve-is : (L : ℕ) → IsCurve first L (curve first L)
+  -- cap and needs are still those of the new contract
+  pub same-cap : s .meaning .«cap» ≡ first .«cap»
+  pub same-needs : s .meaning .needs ≡ first .needs
+  -- the history, oldest first, is a lawful list on the new contract
+  pub history-lawful : Lawful first [] (reverse (s .history))
+  -- whatever level is asked for next
+  pub told : (y : ℕ) → Told first (s .history) y (grant-refusal (s .meaning) y)
+  -- the cap is never turned down
+  pub cap-granted : grant-refusal (s .meaning) (first .«cap») ≡ None
+
+-- every contract that is reached
+abbrev pub Dispatch-promise : Type 0
+Dispatch-promise = (first : Meaning) (s : Standing) → Reached first s → Dispatch first s
+
+-- One call that asked for the level y, by what the contract meant before it and means after it: for whatever
+-- new contract and history led to it, the answer tells the truth, and the contract is reached again, with the
+-- level in its history unless it was refused.
+pub record Asked (m n : Meaning) (y : ℕ) (answer : Option Code) : Type 0 where
+  pub told : (first : Meaning) (past : List ℕ) → Reached first (standing m past) → Told first past y answer
+  pub reached : (first : Meaning) (past : List ℕ) → Reached first (standing m past) → Reached first (standing n (unless-refused answer past (y ∷ past)))

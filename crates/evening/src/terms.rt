@@ -1,0 +1,36 @@
+// What the evening's contract is made of.
+ghost use mathlib.Core.Path.{_≡_};
+ghost use Rattle.std.specs.Vec.{made};
+ghost use Rattle.contract.specs.Faults.{refusal, or-else};
+ghost use Rattle.contract.specs.Meaning.{New};
+ghost use Rattle.kinds.specs.Kinds.{new-switch, switch-refusal};
+ghost use Rattle.kinds.specs.Switches.{switch-meaning};
+ghost use Rattle.layers.specs.Layers.{floored, floor-refusal};
+use contract::Fault;
+use kinds::Switch;
+use kinds::SwitchContract;
+use layers::Floor;
+
+// The numbers of a floor over a switch.
+#[derive(Clone, Copy)]
+pub struct Terms {
+    pub cap: u64,
+    pub memory: u64,
+    pub allowance: u64,
+    pub floor: u64,
+}
+
+impl Terms {
+    // The contract, or why there is none.
+    pub fn agree(self) -> Result<Floor<Switch>, Fault>
+        ensures answer { λ r. ⌜ refusal r ≡ or-else (switch-refusal (self .«cap») (self .memory) (self .allowance)) (floor-refusal (new-switch (self .«cap») (self .memory) (self .allowance)) (self .floor)) ⌝ }
+        ensures made { λ r. ⌜ made r (λ s. floored (switch-meaning (s .below)) (s .floor) ≡ floored (new-switch (self .«cap») (self .memory) (self .allowance)) (self .floor)) ⌝ }
+        ensures begun { λ r. ⌜ made r (λ s. New (floored (switch-meaning (s .below)) (s .floor))) ⌝ }
+    {
+        let switch = Switch::new(self.cap, self.memory, self.allowance)?;
+        match Floor::new(switch, self.floor) {
+            Ok(contract) => Ok(contract),
+            Err(returned) => Err(returned.fault),
+        }
+    }
+}

@@ -1,0 +1,11 @@
+// Contracts that stand on their own: the switch and the table of needs.
+mod needs;
+mod rings;
+mod switches;
+mod tables;
+
+pub use needs::Needs;
+pub use switches::Switch;
+pub use switches::calls::SwitchContract;
+pub use tables::Table;
+pub use tables::calls::TableContract;

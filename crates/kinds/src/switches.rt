@@ -1,0 +1,17 @@
+// The switch. The struct stands apart from what cites definitions over it.
+ghost use Rattle.kinds.specs.Rings.{Held};
+ghost use Rattle.kinds.specs.Sizes.{Sizes};
+use crate::rings::Ring;
+
+pub mod calls;
+
+// A window of k slots is owed k times the cap, less the allowance.
+#[derive(Clone, Copy)]
+pub struct Switch {
+    cap: u32,
+    memory: u32,
+    allowance: u32,
+    ring: Ring,
+    ghost sizes: { Sizes «cap» memory },
+    ghost held: { Held «cap» ring },
+}
