@@ -25,8 +25,9 @@ fn switch_turns_down_what_it_cannot_make_up() -> Result<(), Fail> {
 
 #[test]
 fn worked_by_hand() -> Result<(), Fail> {
-    let [fresh, owing, full] = worked_evening()?;
-    check_eq((fresh, owing, full), (0, 60, 100))
+    let ([fresh, owing, full], refused) = worked_evening()?;
+    check_eq((fresh, owing, full), (0, 60, 100))?;
+    check_eq(refused, Err(Fault::BelowLowest(60)))
 }
 
 #[test]

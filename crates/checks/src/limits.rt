@@ -31,7 +31,7 @@ fn table_fault(cap: u64, needs: &[u64]) -> Option<Fault> {
     }
 }
 
-// Of a layer: its fault, and whether the contract below came back as it was.
+// Of a refused layer: its fault, and the newest level that the contract given back recalls.
 fn returned<L: Drop, C: Contract + Drop>(laid: Result<L, Returned<C>>) -> Option<(Fault, u32)> {
     match laid {
         Ok(_) => None,
@@ -91,46 +91,62 @@ fn checks_go_down_the_table() -> Result<(), Fail> {
     check_eq(table_fault(1, &[2; 97]), Some(Fault::Memory))
 }
 
+fn fresh() -> Result<Switch, Fault> {
+    Switch::new(100, 4, 100)
+}
+
+fn granted(level: u64) -> Result<Switch, Fault> {
+    let mut switch = fresh()?;
+    switch.grant(level)?;
+    Ok(switch)
+}
+
 #[test]
 fn floor_limits() -> Result<(), Fail> {
-    let fresh = Switch::new(100, 4, 100)?;
-    check_eq(returned(Floor::new(fresh, 100)), None)?;
-    check_eq(returned(Floor::new(fresh, 101)), Some((Fault::Floor, 100)))?;
+    check_eq(returned(Floor::new(fresh()?, 100)), None)?;
     check_eq(
-        returned(Floor::new(fresh, u64::MAX)),
+        returned(Floor::new(fresh()?, 101)),
         Some((Fault::Floor, 100)),
     )?;
-    let mut used = fresh;
-    used.grant(99)?;
-    check_eq(returned(Floor::new(used, 0)), Some((Fault::NotNew, 99)))?;
-    check_eq(returned(Floor::new(used, 101)), Some((Fault::Floor, 99)))
+    check_eq(
+        returned(Floor::new(fresh()?, u64::MAX)),
+        Some((Fault::Floor, 100)),
+    )?;
+    check_eq(
+        returned(Floor::new(granted(99)?, 0)),
+        Some((Fault::NotNew, 99)),
+    )?;
+    check_eq(
+        returned(Floor::new(granted(99)?, 101)),
+        Some((Fault::Floor, 99)),
+    )
 }
 
 #[test]
 fn extra_limits() -> Result<(), Fail> {
-    let fresh = Switch::new(100, 4, 100)?;
-    check_eq(returned(Extra::new(fresh, &[])), Some((Fault::Memory, 100)))?;
-    check_eq(returned(Extra::new(fresh, &[0; 4])), None)?;
     check_eq(
-        returned(Extra::new(fresh, &[101; 5])),
+        returned(Extra::new(fresh()?, &[])),
+        Some((Fault::Memory, 100)),
+    )?;
+    check_eq(returned(Extra::new(fresh()?, &[0; 4])), None)?;
+    check_eq(
+        returned(Extra::new(fresh()?, &[101; 5])),
         Some((Fault::Memory, 100)),
     )?;
     check_eq(
-        returned(Extra::new(fresh, &[101; 97])),
+        returned(Extra::new(fresh()?, &[101; 97])),
         Some((Fault::Memory, 100)),
     )?;
     check_eq(
-        returned(Extra::new(fresh, &[100, 201])),
+        returned(Extra::new(fresh()?, &[100, 201])),
         Some((Fault::OwnNeed(2), 100)),
     )?;
-    let mut used = fresh;
-    used.grant(0)?;
     check_eq(
-        returned(Extra::new(used, &[100, 200])),
+        returned(Extra::new(granted(0)?, &[100, 200])),
         Some((Fault::NotNew, 0)),
     )?;
     check_eq(
-        returned(Extra::new(used, &[101])),
+        returned(Extra::new(granted(0)?, &[101])),
         Some((Fault::OwnNeed(1), 0)),
     )
 }
@@ -138,9 +154,7 @@ fn extra_limits() -> Result<(), Fail> {
 // Levels at the cap leave a contract as good as new, and a memory of 1 recalls none.
 #[test]
 fn layers_over_contracts_that_stand_as_new() -> Result<(), Fail> {
-    let mut full = Switch::new(100, 4, 100)?;
-    full.grant(100)?;
-    check_eq(returned(Floor::new(full, 20)), None)?;
+    check_eq(returned(Floor::new(granted(100)?, 20)), None)?;
     let mut short = Switch::new(100, 1, 100)?;
     short.grant(0)?;
     check_eq(returned(Floor::new(short, 20)), None)

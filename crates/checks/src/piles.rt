@@ -10,16 +10,22 @@ use kinds::Table;
 use kinds::TableContract;
 use layers::Extra;
 use layers::ExtraContract;
+use layers::FaultFromReturned;
 use layers::Floor;
 use layers::FloorContract;
-use layers::Returned;
 use std::test::*;
 
-fn laid<L: Drop, C: Drop>(made: Result<L, Returned<C>>) -> Result<L, Fault> {
-    match made {
-        Ok(layer) => Ok(layer),
-        Err(back) => Err(back.fault),
-    }
+fn floor(below: Switch) -> Result<Floor<Switch>, Fault> {
+    Ok(Floor::new(below, 20)?)
+}
+
+fn extra() -> Result<Extra<Table>, Fault> {
+    Ok(Extra::new(Table::new(10, &[4, 5, 6])?, &[1, 9])?)
+}
+
+fn pile() -> Result<Floor<Extra<Switch>>, Fault> {
+    let extra = Extra::new(Switch::new(100, 3, 300)?, &[0, 150])?;
+    Ok(Floor::new(extra, 30)?)
 }
 
 fn letter<C: Contract>() -> char {
@@ -33,13 +39,13 @@ fn each_kind_has_its_letter() -> Result<(), Fail> {
         (letter::<Floor<Switch>>(), letter::<Extra<Table>>()),
         ('F', 'E'),
     )?;
-    let floor = laid(Floor::new(Switch::new(100, 4, 80)?, 20))?;
+    let floor = floor(Switch::new(100, 4, 80)?)?;
     check_eq(floor.kind(), 'F')
 }
 
 #[test]
 fn floor_over_switch() -> Result<(), Fail> {
-    let floor = laid(Floor::new(Switch::new(100, 4, 80)?, 20))?;
+    let floor = floor(Switch::new(100, 4, 80)?)?;
     check_eq((floor.cap(), floor.memory(), floor.lowest()), (100, 4, 20))?;
     check_eq((floor.need(0), floor.need(1), floor.need(2)), (0, 20, 120))?;
     check_eq((floor.need(3), floor.need(4), floor.need(5)), (220, 320, 0))
@@ -47,7 +53,7 @@ fn floor_over_switch() -> Result<(), Fail> {
 
 #[test]
 fn extra_over_table() -> Result<(), Fail> {
-    let extra = laid(Extra::new(Table::new(10, &[4, 5, 6])?, &[1, 9]))?;
+    let extra = extra()?;
     check_eq(
         (extra.need(1), extra.need(2), extra.need(3), extra.need(4)),
         (4, 9, 6, 0),
@@ -58,8 +64,7 @@ fn extra_over_table() -> Result<(), Fail> {
 // A pile grants as its topmost layer says, and every layer recalls it.
 #[test]
 fn pile_of_three() -> Result<(), Fail> {
-    let extra = laid(Extra::new(Switch::new(100, 3, 300)?, &[0, 150]))?;
-    let mut pile = laid(Floor::new(extra, 30))?;
+    let mut pile = pile()?;
     check_eq((pile.need(1), pile.need(2), pile.need(3)), (30, 150, 90))?;
     check_eq(dispatch(&mut pile, 29), Err(Fault::BelowLowest(50)))?;
     check_eq(dispatch(&mut pile, 50), Ok(()))?;

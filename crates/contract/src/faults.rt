@@ -44,6 +44,7 @@ pub struct Code {
 }
 
 impl Fault {
+    // The row of the fault table.
     pub fn code(self) -> Code
         ensures { λ r. ⌜ r ≡ code self ⌝ }
     {

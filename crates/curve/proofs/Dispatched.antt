@@ -1,12 +1,13 @@
 -- Every contract keeps what the dispatcher is promised.
 use mathlib.Core.Path.{_≡_, refl, sym, ap, _∙_, subst}
-use mathlib.Core.List.{List, [], _∷_, reverse}
-use Prim.Native.Nat.{ℕ, zero, suc, _≤_}
+use mathlib.Core.Logic.{_↔_}
+use mathlib.Core.List.{List, [], _∷_, _++_, reverse}
+use Prim.Native.Nat.{ℕ, zero, suc, _-_, _≤_}
 use native.Mathlib.Omega.{arith}
-use lib.ListN.{length, replicate}
+use lib.ListN.{length, take, replicate}
 use Rattle.std.specs.declared.option.Option.{Option}
 use Rattle.std.specs.declared.option.Option.the-variants.{Some, None}
-use Rattle.std.proofs.shelf.Lists.{length-replicate}
+use Rattle.std.proofs.shelf.Lists.{length-replicate, take-all, take-take}
 use Rattle.contract.specs.declared.faults.Code.{Code}
 use Rattle.contract.specs.Meaning.{Meaning, New, memory, lowest, granted}
 use Rattle.contract.specs.Faults.{Refused, grant-refusal, unless-refused}
@@ -32,10 +33,22 @@ either-way : {X : Type 0} (o : Option Code) (old new : X) (P : X → Type 0) →
 either-way None old new P a b = b refl
 either-way (Some c) old new P a b = a
 
+-- the recall is the newest of the history, and the cap where it ends
+abbrev Remembers : Meaning → List ℕ → Type 0
+Remembers m past = m .recall ≡ take (memory m - 1) (past ++ replicate (memory m - 1) (m .«cap»))
+
+remembers-granted : (m : Meaning) (past : List ℕ) (y : ℕ) → Remembers m past → Remembers (granted m y) (y ∷ past)
+remembers-granted m past y e = ap (λ (r : List ℕ). take (memory m - 1) (y ∷ r)) e ∙ forget (memory m - 1) (past ++ replicate (memory m - 1) (m .«cap»))
+  where
+    forget : (n : ℕ) (xs : List ℕ) → take n (y ∷ take n xs) ≡ take n (y ∷ xs)
+    forget zero xs = refl
+    forget (suc n) xs = ap (λ (r : List ℕ). y ∷ r) (take-take n (suc n) xs (omega arith))
+
 -- what holds of every contract that is reached
 record Stays (first : Meaning) (s : Standing) : Type 0 where
   same-cap : s .meaning .«cap» ≡ first .«cap»
   same-needs : s .meaning .needs ≡ first .needs
+  recalls : Remembers (s .meaning) (s .history)
   stands : Stands (s .meaning) (s .history)
 
 module _ (first : Meaning) where
@@ -45,12 +58,16 @@ module _ (first : Meaning) where
       (λ e. record {
         same-cap = st .same-cap;
         same-needs = st .same-needs;
+        recalls = remembers-granted (s .meaning) (s .history) y (st .recalls);
         stands = stands-granted (s .meaning) (s .history) (st .stands) y (admitted-cap (s .meaning) y e) (admitted-lowest (s .meaning) y e);
       })
   call-keeps looking s st = st
 
   reached-stays : (s : Standing) → Reached first s → Stays first s
-  reached-stays s (at-first new) = record { same-cap = refl; same-needs = refl; stands = stands-new first new }
+  reached-stays s (at-first new) = record { same-cap = refl; same-needs = refl; recalls = remembers-new; stands = stands-new first new }
+    where
+      remembers-new : Remembers first []
+      remembers-new = new .unused ∙ sym (take-all (memory first - 1) (replicate (memory first - 1) (first .«cap»)) (omega (arith, length-replicate (memory first - 1) (first .«cap»))))
   reached-stays s (then-call {s = t} c r) = call-keeps c t (reached-stays t r)
 
   reached-new : (s : Standing) → Reached first s → New first
@@ -106,6 +123,17 @@ module _ (first : Meaning) (s : Standing) (st : Stays first s) where
     there (s .history) (y ∷ replicate n (s .meaning .«cap»)) (goes-on (s .meaning) (s .history) (st .stands) y e n),
   )
 
+  allowed : (y : ℕ) → ((ys : List ℕ) × Lawful first (s .history) (y ∷ ys)) ↔ ((lowest (s .meaning) ≤ y) × (y ≤ first .«cap»))
+  allowed y = (
+    (λ l. let e = begins y (l .0) (l .1) in (admitted-lowest (s .meaning) y e, omega (arith, admitted-cap (s .meaning) y e, st .same-cap))),
+    (λ h. let l = extends y (admitted (s .meaning) y (h .0) (omega (arith, h .1, st .same-cap))) 1 (omega arith) in (l .0, l .2)),
+  )
+
+  recalled : s .meaning .recall ≡ take (memory first - 1) (s .history ++ replicate (memory first - 1) (first .«cap»))
+  recalled =
+      let by : List ℕ → ℕ → List ℕ = λ needs top. take (length needs - 1) (s .history ++ replicate (length needs - 1) top) in
+      st .recalls ∙ ap (λ (needs : List ℕ). by needs (s .meaning .«cap»)) (st .same-needs) ∙ ap (by (first .needs)) (st .same-cap)
+
   told : (y : ℕ) → Told first (s .history) y (grant-refusal (s .meaning) y)
   told y = record {
     turned-down-if = λ high. (
@@ -123,6 +151,8 @@ module _ (first : Meaning) (s : Standing) (st : Stays first s) where
     history-lawful =
         there [] (reverse (s .history))
         (steps-past (s .meaning) (st .stands .some-need) (st .stands .met) (s .history) [] (st .stands .kept) tt);
+    recalls = recalled;
+    allowed = allowed;
     told = told;
     cap-granted = admitted (s .meaning) (first .«cap») (omega (arith, st .same-cap)) (omega (arith, st .same-cap));
   }

@@ -1,13 +1,13 @@
 -- What the dispatcher is promised of every contract, over every sequence of calls.
 use mathlib.Core.Path.{_≡_}
 use mathlib.Core.Logic.{_↔_}
-use mathlib.Core.List.{List, [], _∷_, reverse}
-use Prim.Native.Nat.{ℕ, _≤_}
-use lib.ListN.{length}
+use mathlib.Core.List.{List, [], _∷_, _++_, reverse}
+use Prim.Native.Nat.{ℕ, _-_, _≤_}
+use lib.ListN.{length, take, replicate}
 use Rattle.std.specs.declared.option.Option.{Option}
 use Rattle.std.specs.declared.option.Option.the-variants.{None}
 use Rattle.contract.specs.declared.faults.Code.{Code}
-use Rattle.contract.specs.Meaning.{Meaning}
+use Rattle.contract.specs.Meaning.{Meaning, memory, lowest}
 use Rattle.contract.specs.Faults.{Refused, grant-refusal, unless-refused}
 use Rattle.curve.specs.Curve.{IsCurve, curve}
 use Rattle.curve.specs.Lawful.{Lawful}
@@ -30,6 +30,10 @@ pub record Dispatch (first : Meaning) (s : Standing) : Type 0 where
   pub same-needs : s .meaning .needs ≡ first .needs
   -- the history, oldest first, is a lawful list on the new contract
   pub history-lawful : Lawful first [] (reverse (s .history))
+  -- the recall is the newest of the history, and the cap where the history ends
+  pub recalls : s .meaning .recall ≡ take (memory first - 1) (s .history ++ replicate (memory first - 1) (first .«cap»))
+  -- lowest is the least level with which a lawful list begins; with each from there up to the cap one does
+  pub allowed : (y : ℕ) → ((ys : List ℕ) × Lawful first (s .history) (y ∷ ys)) ↔ ((lowest (s .meaning) ≤ y) × (y ≤ first .«cap»))
   -- whatever level is asked for next
   pub told : (y : ℕ) → Told first (s .history) y (grant-refusal (s .meaning) y)
   -- the cap is never turned down

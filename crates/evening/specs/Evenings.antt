@@ -22,15 +22,32 @@ Refused-line m line c =
     ((level : ℕ) × Asks-for line level × (grant-refusal m level ≡ Some c))
     ⊎ (((level : ℕ) → Asks-for line level → ⊥) × (c ≡ text-fault 1))
 
--- What a line is answered and leaves, by what the contract, the count of slots and their energy were and are.
-abbrev pub Replies : Meaning → Meaning → ℕ → ℕ → ℕ → ℕ → ℕ → List ℕ → Reply → Type 0
-Replies m n slots slots′ energy energy′ count line (Granted slot level) =
-    Granted-line m line level
-    × (n ≡ granted m level)
-    × (slots′ ≡ min (slots + 1) (2 ^ 64 - 1))
-    × (energy′ ≡ min (energy + level) (2 ^ 64 - 1))
-    × (slot ≡ slots′)
-Replies m n slots slots′ energy energy′ count line (Refused at fault) =
-    Refused-line m line (code fault) × (n ≡ m) × (slots′ ≡ slots) × (energy′ ≡ energy) × (at ≡ count)
-Replies m n slots slots′ energy energy′ count line (Begins letter top memory) = ⊥
-Replies m n slots slots′ energy energy′ count line (Ends granted given lowest) = ⊥
+-- what an evening holds between lines: the contract's meaning, how many slots were granted, and their energy
+pub record Books : Type 0 where
+  pub meaning : Meaning
+  pub slots : ℕ
+  pub energy : ℕ
+
+abbrev pub books : Meaning → ℕ → ℕ → Books
+books m slots energy = record { meaning = m; slots = slots; energy = energy }
+
+-- one more in a count that stops at the largest number
+abbrev pub counted : ℕ → ℕ → ℕ
+counted n more = min (n + more) (2 ^ 64 - 1)
+
+-- what line number `count` is answered, and what it leaves: a refused one leaves all as it was
+abbrev pub Replies : Books → Books → ℕ → List ℕ → Reply → Type 0
+Replies b a count line (Granted slot level) =
+    Granted-line (b .meaning) line level
+    × (a .meaning ≡ granted (b .meaning) level)
+    × (a .slots ≡ counted (b .slots) 1)
+    × (a .energy ≡ counted (b .energy) level)
+    × (slot ≡ a .slots)
+Replies b a count line (Refused at fault) =
+    Refused-line (b .meaning) line (code fault)
+    × (a .meaning ≡ b .meaning)
+    × (a .slots ≡ b .slots)
+    × (a .energy ≡ b .energy)
+    × (at ≡ count)
+Replies b a count line (Begins letter memory) = ⊥
+Replies b a count line (Ends slots energy lowest) = ⊥

@@ -10,7 +10,7 @@ use Rattle.evening.specs.declared.replies.Reply.{Reply}
 use Rattle.evening.specs.declared.replies.Reply.the-variants.{Begins, Granted, Refused, Ends}
 
 abbrev pub reply-text : Reply → List ℕ
-reply-text (Begins letter top memory) = codes "contract " ++ (encode letter ++ (codes " cap " ++ (decimal top ++ (codes " memory " ++ decimal memory))))
+reply-text (Begins letter memory) = codes "contract " ++ (encode letter ++ (codes " memory " ++ decimal memory))
 reply-text (Granted slot level) = codes "slot " ++ (decimal slot ++ (codes " level " ++ decimal level))
 reply-text (Refused line fault) = codes "fault line " ++ (decimal line ++ (codes " " ++ code-text (code fault)))
 reply-text (Ends slots energy lowest) =

@@ -10,3 +10,4 @@ pub use numerals::number_of;
 pub use replies::Reply;
 pub use replies::ReplyDisplay;
 pub use terms::Terms;
+pub use terms::opening;

@@ -7,8 +7,8 @@ use std::fmt;
 
 #[derive(Clone, Copy)]
 pub enum Reply {
-    // The contract's letter, cap and memory.
-    Begins(char, u32, u32),
+    // The letter of the kind named, and the memory.
+    Begins(char, u32),
     // The slot, counted from 1, and its level.
     Granted(u64, u64),
     // The line, counted from 1, and why nothing came of it.
@@ -22,9 +22,7 @@ pub impl fmt::Display for Reply as ReplyDisplay {
 
     fn fmt<W: fmt::Write>(&self, f: &mut fmt::Formatter<W>) -> fmt::Result {
         match self {
-            Reply::Begins(letter, cap, memory) => {
-                write!(f, "contract {letter} cap {cap} memory {memory}")
-            }
+            Reply::Begins(letter, memory) => write!(f, "contract {letter} memory {memory}"),
             Reply::Granted(slot, level) => write!(f, "slot {slot} level {level}"),
             Reply::Refused(line, fault) => write!(f, "fault line {line} {fault}"),
             Reply::Ends(slots, energy, lowest) => {

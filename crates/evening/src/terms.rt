@@ -2,14 +2,19 @@
 ghost use mathlib.Core.Path.{_≡_};
 ghost use Rattle.std.specs.Vec.{made};
 ghost use Rattle.contract.specs.Faults.{refusal, or-else};
-ghost use Rattle.contract.specs.Meaning.{New};
+ghost use Rattle.contract.specs.Meaning.{New, memory};
 ghost use Rattle.kinds.specs.Kinds.{new-switch, switch-refusal};
 ghost use Rattle.kinds.specs.Switches.{switch-meaning};
 ghost use Rattle.layers.specs.Layers.{floored, floor-refusal};
+ghost use Rattle.evening.specs.declared.replies.Reply.the-variants.{Begins};
+use crate::replies::Reply;
+use contract::Contract;
 use contract::Fault;
 use kinds::Switch;
 use kinds::SwitchContract;
+use layers::FaultFromReturned;
 use layers::Floor;
+use layers::FloorContract;
 
 // The numbers of a floor over a switch.
 #[derive(Clone, Copy)]
@@ -28,9 +33,14 @@ impl Terms {
         ensures begun { λ r. ⌜ made r (λ s. New (floored (switch-meaning (s .below)) (s .floor))) ⌝ }
     {
         let switch = Switch::new(self.cap, self.memory, self.allowance)?;
-        match Floor::new(switch, self.floor) {
-            Ok(contract) => Ok(contract),
-            Err(returned) => Err(returned.fault),
-        }
+        let contract = Floor::new(switch, self.floor)?;
+        Ok(contract)
     }
+}
+
+// How the evening begins: the letter of the kind below the floor, and the memory.
+pub fn opening(contract: &Floor<Switch>) -> Reply
+    ensures { λ r. ⌜ r ≡ Begins 83 (memory (floored (switch-meaning (now (contract .entry) .below)) (now (contract .entry) .floor))) ⌝ }
+{
+    Reply::Begins(Switch::LETTER, contract.memory())
 }

@@ -8,6 +8,8 @@ use Rattle.std.specs.Iters.{counting}
 use Rattle.std.specs.declared.option.Option.{Option}
 use Rattle.std.specs.declared.option.Option.the-variants.{None}
 use Rattle.contract.specs.declared.faults.Code.{Code}
+use Rattle.contract.specs.declared.faults.Fault.{Fault}
+use Rattle.contract.specs.declared.faults.Fault.the-variants.{Unreadable, Cap, Memory, OwnNeed, Allowance, Floor, NotNew, AboveCap, BelowLowest}
 use Rattle.contract.specs.Meaning.{Meaning}
 use Rattle.contract.specs.Faults.{contract-fault, refuse-if}
 use Rattle.contract.specs.Scans.{first-failing}
@@ -36,6 +38,18 @@ switch-refusal top memory allowance =
     refuse-if (outside 1 20000 top) (contract-fault 3 0)
     (refuse-if (outside 1 96 memory) (contract-fault 4 0)
     (refuse-if (ltb (memory * top) allowance) (contract-fault 5 0) None))
+
+-- why a making of a switch is refused: an allowance and a floor that are too great show the same code
+abbrev pub Switch-fault : Fault → Type 0
+Switch-fault Cap = Unit
+Switch-fault Memory = Unit
+Switch-fault Allowance = Unit
+Switch-fault Unreadable = ⊥
+Switch-fault (OwnNeed k) = ⊥
+Switch-fault Floor = ⊥
+Switch-fault NotNew = ⊥
+Switch-fault AboveCap = ⊥
+Switch-fault (BelowLowest x) = ⊥
 
 -- the table: its needs as they are given
 abbrev pub new-table : ℕ → List ℕ → Meaning

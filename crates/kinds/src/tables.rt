@@ -11,7 +11,7 @@ use crate::rings::Ring;
 pub mod calls;
 
 // Every window is owed what the caller has listed for its length.
-#[derive(Clone, Copy)]
+#[derive(Drop)]
 pub struct Table {
     cap: u32,
     needs: Needs,

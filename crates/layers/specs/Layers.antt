@@ -10,6 +10,8 @@ use Rattle.std.specs.declared.option.Option.the-variants.{Some, None}
 use Rattle.std.specs.declared.result.Result.{Result}
 use Rattle.std.specs.declared.result.Result.the-variants.{Ok, Err}
 use Rattle.contract.specs.declared.faults.Code.{Code}
+use Rattle.contract.specs.declared.faults.Fault.{Fault}
+use Rattle.contract.specs.declared.faults.Fault.the-variants.{Unreadable, Cap, Memory, OwnNeed, Allowance, Floor, NotNew, AboveCap, BelowLowest}
 use Rattle.contract.specs.Meaning.{Meaning, memory, need}
 use Rattle.contract.specs.Faults.{code, contract-fault, refuse-if, or-else}
 use Rattle.kinds.specs.Kinds.{needs-by, outside, too-great}
@@ -45,12 +47,24 @@ recalled-refusal m = refuse-if (any-under (m .«cap») (m .recall)) (contract-fa
 abbrev pub floor-refusal : Meaning → ℕ → Option Code
 floor-refusal m f = refuse-if (ltb (m .«cap») f) (contract-fault 5 0) (recalled-refusal m)
 
+-- why a floor is refused: an allowance that is too great shows the same code
+abbrev pub Floor-fault : Fault → Type 0
+Floor-fault Floor = Unit
+Floor-fault NotNew = Unit
+Floor-fault Unreadable = ⊥
+Floor-fault Cap = ⊥
+Floor-fault Memory = ⊥
+Floor-fault (OwnNeed k) = ⊥
+Floor-fault Allowance = ⊥
+Floor-fault AboveCap = ⊥
+Floor-fault (BelowLowest x) = ⊥
+
 abbrev pub extra-refusal : Meaning → List ℕ → Option Code
 extra-refusal m own =
     refuse-if (outside 1 96 (length own) || ltb (memory m) (length own)) (contract-fault 4 0)
     (or-else (too-great (m .«cap») 1 own) (recalled-refusal m))
 
--- a laying answers as told, and gives back the contract below where it refuses
+-- a laying is refused exactly as told
 abbrev pub Answers : {X C : Type 0} → Result X (Returned C) → Option Code → Type 0
 Answers (Ok x) told = told ≡ None
 Answers (Err e) told = told ≡ Some (code (e .fault))

@@ -20,6 +20,8 @@ pub struct Extra<C> {
 }
 
 impl<C: Contract> Extra<C> {
+    // Refuses needs that are none, longer than the memory below or above their limit, and a contract that
+    // recalls a level under the cap.
     pub fn new(below: C, needs: &[u64]) -> Result<Extra<C>, Returned<C>>
         ensures answer { λ r. ⌜ Answers r (extra-refusal (meaning below) (now (needs .entry))) ⌝ }
         ensures made { λ r. ⌜ Cases r (λ s. (s .below ≡ below) × (listed (s .own) ≡ now (needs .entry))) (λ e. e .contract ≡ below) ⌝ }

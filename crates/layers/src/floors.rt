@@ -2,7 +2,7 @@
 ghost use mathlib.Core.Path.{_≡_};
 ghost use Rattle.std.specs.Results.{Cases};
 ghost use Rattle.contract.specs.Meaning.{New};
-ghost use Rattle.layers.specs.Layers.{Answers, floored, floor-refusal};
+ghost use Rattle.layers.specs.Layers.{Answers, Floor-fault, floored, floor-refusal};
 use crate::over::Returned;
 use crate::over::recalls_under_cap;
 use contract::Contract;
@@ -18,8 +18,10 @@ pub struct Floor<C> {
 }
 
 impl<C: Contract> Floor<C> {
+    // Refuses a floor above the cap, and a contract that recalls a level under it.
     pub fn new(below: C, floor: u64) -> Result<Floor<C>, Returned<C>>
         ensures answer { λ r. ⌜ Answers r (floor-refusal (meaning below) floor) ⌝ }
+        ensures fault { λ r. ⌜ Cases r (λ _. Unit {0}) (λ e. Floor-fault (e .fault)) ⌝ }
         ensures made { λ r. ⌜ Cases r (λ s. (s .below ≡ below) × (s .floor ≡ floor)) (λ e. e .contract ≡ below) ⌝ }
         ensures begun { λ r. ⌜ Cases r (λ s. New (floored (meaning (s .below)) (s .floor))) (λ _. Unit {0}) ⌝ }
     {

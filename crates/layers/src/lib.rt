@@ -7,4 +7,5 @@ pub use extras::Extra;
 pub use extras::ExtraContract;
 pub use floors::Floor;
 pub use floors::FloorContract;
+pub use over::FaultFromReturned;
 pub use over::Returned;

@@ -11,6 +11,15 @@ pub struct Returned<C> {
     pub contract: C,
 }
 
+// For `?` where the contract below is not wanted back.
+pub impl<C: Drop> From<Returned<C>> for Fault as FaultFromReturned {
+    ghost converts = { λ e r. r ≡ e .fault };
+
+    fn from(returned: Returned<C>) -> Fault {
+        returned.fault
+    }
+}
+
 // Whether a recalled level is under the cap, as on no new contract.
 pub(crate) fn recalls_under_cap<C: Contract>(contract: &C) -> bool
     ensures { λ r. ⌜ r ≡ any-under (meaning (now (contract .entry)) .«cap») (meaning (now (contract .entry)) .recall) ⌝ }

@@ -2,10 +2,10 @@
 use contract::Contract;
 use contract::FaultError;
 use evening::Evening;
-use evening::Reply;
 use evening::ReplyDisplay;
 use evening::Terms;
 use evening::number_of;
+use evening::opening;
 use kinds::SwitchContract;
 use layers::FloorContract;
 use std::env;
@@ -23,7 +23,10 @@ fn read_terms(rt: &LibcRuntime) -> Result<Terms, AnyError> {
         if given >= 4 {
             return Err(USAGE.into());
         }
-        numbers[given] = number_of(word.as_bytes())?;
+        let Ok(number) = number_of(word.as_bytes()) else {
+            return Err(USAGE.into());
+        };
+        numbers[given] = number;
         given += 1;
     }
     if given != 0 && given != 4 {
@@ -40,8 +43,8 @@ fn read_terms(rt: &LibcRuntime) -> Result<Terms, AnyError> {
 
 fn run(rt: &LibcRuntime) -> Result<(), AnyError> {
     let contract = read_terms(rt)?.agree()?;
-    rt.println(Reply::Begins(contract.kind(), contract.cap(), contract.memory()))?;
-    let mut evening = Evening::begin(contract);
+    rt.println(opening(&contract))?;
+    let mut evening = Evening::new(contract);
     let mut input = BufReader::new(rt.stdin());
     let mut line = Vec::new(rt.alloc());
     // Nothing says that an input ends, so the lines are counted.

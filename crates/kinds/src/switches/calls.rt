@@ -1,9 +1,9 @@
 // The making of a switch, and its answers.
 ghost use mathlib.Core.Path.{_≡_};
-ghost use Rattle.std.specs.Vec.{made};
+ghost use Rattle.std.specs.Vec.{made, refused};
 ghost use Rattle.contract.specs.Faults.{refusal};
 ghost use Rattle.contract.specs.Meaning.{New};
-ghost use Rattle.kinds.specs.Kinds.{new-switch, switch-refusal};
+ghost use Rattle.kinds.specs.Kinds.{Switch-fault, new-switch, switch-refusal};
 ghost use Rattle.kinds.specs.Switches.{switch-meaning};
 use super::Switch;
 use crate::rings::Ring;
@@ -11,8 +11,10 @@ use contract::Contract;
 use contract::Fault;
 
 impl Switch {
+    // Refuses a cap or a memory outside its limits, and an allowance above memory times cap.
     pub fn new(cap: u64, memory: u64, allowance: u64) -> Result<Switch, Fault>
         ensures answer { λ r. ⌜ refusal r ≡ switch-refusal «cap» memory allowance ⌝ }
+        ensures fault { λ r. ⌜ refused r Switch-fault ⌝ }
         ensures made { λ r. ⌜ made r (λ s. switch-meaning s ≡ new-switch «cap» memory allowance) ⌝ }
         ensures begun { λ r. ⌜ made r (λ s. New (switch-meaning s)) ⌝ }
     {

@@ -12,6 +12,7 @@ use contract::Contract;
 use contract::Fault;
 
 impl Table {
+    // Refuses what a list of needs refuses.
     pub fn new(cap: u64, needs: &[u64]) -> Result<Table, Fault>
         ensures answer { λ r. ⌜ refusal r ≡ needs-refusal «cap» (now (needs .entry)) ⌝ }
         ensures made { λ r. ⌜ made r (λ s. table-meaning s ≡ new-table «cap» (now (needs .entry))) ⌝ }

@@ -13,6 +13,7 @@ returns c =
     let long = length-needs-by f (a .memory) in
     record {
       answer = grind (arith, tells);
+      fault = tt;
       made = begun-ring (a .«cap») (a .memory) (needs-by f (a .memory)) long (c .new .result) (omega arith) (c .new .ensures .full);
       begun =
           new-ring (a .«cap») (a .memory) (needs-by f (a .memory)) long (c .new .result)

@@ -12,6 +12,7 @@ returns g c =
     let none = c .if-recalls-under-cap .ensures tt in
     record {
       answer = grind (arith, tells);
+      fault = tt;
       made = (refl, refl);
       begun = new-layered m (floor-need (m .«cap») (c .args .floor)) (g .C·Contract·met .limits (c .args .below)) (λ k low high. floor-most (m .«cap») (c .args .floor) k) none;
     }
