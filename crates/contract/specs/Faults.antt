@@ -1,4 +1,4 @@
--- Each fault as a layer, a number and a detail, and what a grant refuses.
+-- How each fault is shown, and what a grant refuses.
 use mathlib.Core.Bool.{Bool, cond}
 use Prim.Native.Nat.{ℕ}
 use lib.Dec.{ltb}

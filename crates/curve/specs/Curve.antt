@@ -11,7 +11,7 @@ abbrev pub Each : (ℕ → Type 0) → List ℕ → Type 0
 Each P [] = Unit
 Each P (x ∷ xs) = P x × Each P xs
 
--- a way to write the length L as a sum of lengths from 1 to the memory
+-- the length L cut into parts, none of them empty and none longer than the memory
 pub record Way (m : Meaning) (L : ℕ) (parts : List ℕ) : Type 0 where
   pub lengths : Each (λ k. (1 ≤ k) × (k ≤ memory m)) parts
   pub fills : sum parts ≡ L
@@ -20,7 +20,7 @@ pub record Way (m : Meaning) (L : ℕ) (parts : List ℕ) : Type 0 where
 abbrev pub needs-of : Meaning → List ℕ → ℕ
 needs-of m parts = sum (map (need m) parts)
 
--- e is the greatest sum of needs over all ways to write L
+-- some way to cut L has needs that add up to e, and none has more
 pub record IsCurve (m : Meaning) (L e : ℕ) : Type 0 where
   pub some-way : (parts : List ℕ) × Way m L parts × (needs-of m parts ≡ e)
   pub no-more : (parts : List ℕ) → Way m L parts → needs-of m parts ≤ e

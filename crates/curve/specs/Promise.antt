@@ -16,14 +16,14 @@ use Rattle.curve.specs.Reached.{Standing, standing, Reached}
 -- What an answer tells him who asked for the level y, of a contract that was new as `first` and has granted
 -- the past since.
 pub record Told (first : Meaning) (past : List ℕ) (y : ℕ) (answer : Option Code) : Type 0 where
-  -- a level up to the cap is turned down exactly if no lawful list begins with it
+  -- within the cap, it is turned down exactly where no lawful list could begin with it
   pub turned-down-if : y ≤ first .«cap» → Refused answer ↔ ((ys : List ℕ) → Lawful first past (y ∷ ys) → ⊥)
-  -- a level is granted exactly if for every length from one on some lawful list of that length begins with it
+  -- it is granted exactly where lawful lists of every length, from one on, begin with it
   pub granted-if : (answer ≡ None) ↔ ((n : ℕ) → 1 ≤ n → (ys : List ℕ) × (length (y ∷ ys) ≡ n) × Lawful first past (y ∷ ys))
 
 -- What holds of a contract that was new as `first` and that calls have brought to s.
 pub record Dispatch (first : Meaning) (s : Standing) : Type 0 where
-  -- the curve is the greatest sum of needs over all ways to split a length
+  -- what is computed as the curve is the curve
   pub curve-is : (L : ℕ) → IsCurve first L (curve first L)
   -- cap and needs are still those of the new contract
   pub same-cap : s .meaning .«cap» ≡ first .«cap»

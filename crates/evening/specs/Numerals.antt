@@ -8,7 +8,7 @@ use Rattle.std.specs.shelf.Digits.{number}
 abbrev pub IsDigit : ℕ → Type 0
 IsDigit b = (48 ≤ b) × (b ≤ 57)
 
--- 1 to 13 digits, with no leading zero but 0 itself
+-- digits, one at least and 13 at most, that start with 0 only where they write 0
 pub record Numeral (bytes : List ℕ) : Type 0 where
   pub some : 1 ≤ length bytes
   pub few : length bytes ≤ 13

@@ -9,3 +9,8 @@ pub use switches::Switch;
 pub use switches::calls::SwitchContract;
 pub use tables::Table;
 pub use tables::calls::TableContract;
+
+// The greatest cap and the longest memory.
+const CAP_MOST: u64 = 20_000;
+
+const MEMORY_MOST: u64 = 96;

@@ -1,4 +1,4 @@
--- Layers: contracts with the cap, memory and recalled levels of the one below, and needs that are no smaller.
+-- Layers: they share cap, memory and recall with what they lie over, and owe no less.
 use mathlib.Core.Path.{_≡_}
 use mathlib.Core.Bool.{Bool, false, _||_}
 use mathlib.Core.List.{List, [], _∷_}

@@ -7,6 +7,8 @@ ghost use Rattle.contract.specs.Faults.{refusal};
 ghost use Rattle.kinds.specs.Kinds.{needs-refusal};
 ghost use Rattle.kinds.specs.Listed.{listed};
 use super::Needs;
+use crate::CAP_MOST;
+use crate::MEMORY_MOST;
 use contract::Fault;
 
 impl Needs {
@@ -15,10 +17,10 @@ impl Needs {
         ensures answer { λ r. ⌜ refusal r ≡ needs-refusal «cap» (now (needs .entry)) ⌝ }
         ensures made { λ r. ⌜ made r (λ n. listed n ≡ now (needs .entry)) ⌝ }
     {
-        if cap < 1 || cap > 20_000 {
+        if cap < 1 || cap > CAP_MOST {
             return Err(Fault::Cap);
         }
-        if needs.len() < 1 || needs.len() > 96 {
+        if needs.len() < 1 || needs.len() as u64 > MEMORY_MOST {
             return Err(Fault::Memory);
         }
         let mut each = [0; 96];

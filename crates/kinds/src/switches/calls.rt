@@ -6,6 +6,8 @@ ghost use Rattle.contract.specs.Meaning.{New};
 ghost use Rattle.kinds.specs.Kinds.{Switch-fault, new-switch, switch-refusal};
 ghost use Rattle.kinds.specs.Switches.{switch-meaning};
 use super::Switch;
+use crate::CAP_MOST;
+use crate::MEMORY_MOST;
 use crate::rings::Ring;
 use contract::Contract;
 use contract::Fault;
@@ -18,10 +20,10 @@ impl Switch {
         ensures made { λ r. ⌜ made r (λ s. switch-meaning s ≡ new-switch «cap» memory allowance) ⌝ }
         ensures begun { λ r. ⌜ made r (λ s. New (switch-meaning s)) ⌝ }
     {
-        if cap < 1 || cap > 20_000 {
+        if cap < 1 || cap > CAP_MOST {
             return Err(Fault::Cap);
         }
-        if memory < 1 || memory > 96 {
+        if memory < 1 || memory > MEMORY_MOST {
             return Err(Fault::Memory);
         }
         if allowance > memory * cap {
