@@ -12,7 +12,7 @@ use Rattle.curve.specs.Lawful.{energy}
 use Rattle.curve.proofs.Totals.{sum-cons}
 
 -- a window is its newer part and its older part
-pub energy-split : (top : ℕ) (past : List ℕ) (k L : ℕ) → energy top past (k + L) ≡ energy top past k + energy top (drop k past) L
+energy-split : (top : ℕ) (past : List ℕ) (k L : ℕ) → energy top past (k + L) ≡ energy top past k + energy top (drop k past) L
 energy-split top past zero L = rw (zero-add L, zero-add (energy top past L))
 energy-split top [] (suc k) L = rw suc-add (omega (arith, energy-split top [] k L, dropped k))
   where
@@ -35,17 +35,17 @@ abbrev pub Met : ℕ → List ℕ → Type 0
 Met top ns = (k : ℕ) → getD ns k 0 ≤ suc k * top
 
 module _ (top : ℕ) (ns : List ℕ) (met : Met top ns) where
-  pub kept-window : (past : List ℕ) → Kept top ns past → (k : ℕ) → getD ns k 0 ≤ energy top past (suc k)
+  kept-window : (past : List ℕ) → Kept top ns past → (k : ℕ) → getD ns k 0 ≤ energy top past (suc k)
   kept-window [] kept k = omega (arith, met k, energy-past top (suc k))
   kept-window (y ∷ past) kept k = kept .1 k
 
-  pub kept-drop : (past : List ℕ) (k : ℕ) → Kept top ns past → Kept top ns (drop k past)
+  kept-drop : (past : List ℕ) (k : ℕ) → Kept top ns past → Kept top ns (drop k past)
   kept-drop past zero kept = kept
   kept-drop [] (suc k) kept = kept
   kept-drop (y ∷ past) (suc k) kept = kept-drop past k (kept .2)
 
   -- one slot more adds at most the cap
-  pub energy-step : (past : List ℕ) → Kept top ns past → (k : ℕ) → energy top past (suc k) ≤ energy top past k + top
+  energy-step : (past : List ℕ) → Kept top ns past → (k : ℕ) → energy top past (suc k) ≤ energy top past k + top
   energy-step [] kept k = omega arith
   energy-step (y ∷ past) kept zero = omega arith
   energy-step (y ∷ past) kept (suc k) = omega (arith, energy-step past (kept .2) k)

@@ -19,10 +19,10 @@ module _ (line text : List ℕ) (e : line ≡ text ++ (10 ∷ [])) where
   ended-at : length text ≡ length line - 1
   ended-at = omega (arith, ended-length)
 
-  pub ended-last : getD line (length line - 1) 0 ≡ 10
+  ended-last : getD line (length line - 1) 0 ≡ 10
   ended-last = ap (λ l. getD l (length line - 1) 0) e ∙ getD-push text 10 0 (length line - 1) ended-at
 
-  pub ended-text : take (length line - 1) line ≡ text
+  ended-text : take (length line - 1) line ≡ text
   ended-text = ap (take (length line - 1)) e ∙ take-at text (10 ∷ []) (length line - 1) ended-at
 
 -- a line with nothing before its end asks for nothing

@@ -10,7 +10,7 @@ use Rattle.std.proofs.shelf.Lists.{getD-past, getD-take}
 use Rattle.std.proofs.shelf.Tests.{cases-lt}
 use Rattle.kinds.specs.Kinds.{needs-by}
 
-pub place-in : (xs : List ℕ) (k : ℕ) → 1 ≤ k → getD (0 ∷ xs) k 0 ≡ getD xs (k - 1) 0
+place-in : (xs : List ℕ) (k : ℕ) → 1 ≤ k → getD (0 ∷ xs) k 0 ≡ getD xs (k - 1) 0
 place-in xs zero h = absurd (omega arith)
 place-in xs (suc j) h = let d : suc j - 1 ≡ j = omega arith in rw d
 

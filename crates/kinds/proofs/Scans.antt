@@ -37,7 +37,7 @@ module _ (bad : ℕ → ℕ → Bool) (number : ℕ) where
   passes false c rest e = (refl, e)
 
   -- where none fails, each element passes
-  pub each-passes : (k : ℕ) (xs : List ℕ) → first-failing bad number k xs ≡ None → (j : ℕ) → j < length xs → bad (k + j) (getD xs j 0) ≡ false
+  each-passes : (k : ℕ) (xs : List ℕ) → first-failing bad number k xs ≡ None → (j : ℕ) → j < length xs → bad (k + j) (getD xs j 0) ≡ false
   each-passes k [] e j h = absurd (omega arith)
   each-passes k (x ∷ xs) e zero h = rw add-zero (passes (bad k x) (contract-fault number k) (first-failing bad number (k + 1) xs) e .0)
   each-passes k (x ∷ xs) e (suc j) h =

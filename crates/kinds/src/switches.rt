@@ -5,7 +5,8 @@ use crate::rings::Ring;
 
 pub mod calls;
 
-// A window of k slots is owed k times the cap, less the allowance. It is not copied: two would part in what they recall.
+// A window of k slots is owed k times the cap, less the allowance. A switch is moved and not copied: two
+// would part in what they recall.
 #[derive(Drop)]
 pub struct Switch {
     cap: u32,
