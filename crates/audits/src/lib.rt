@@ -1,4 +1,6 @@
 // Examples of what forecasts, verdicts and curves tell.
+#![tactic(auto)]
+
 #[cfg(test)]
 mod curves;
 #[cfg(test)]

@@ -1,4 +1,6 @@
 // Examples of what contracts answer, grant and refuse.
+#![tactic(auto)]
+
 #[cfg(test)]
 mod grants;
 #[cfg(test)]

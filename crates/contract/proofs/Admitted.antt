@@ -1,5 +1,5 @@
 -- What a grant refuses, as orders of numbers.
-use Rattle.std.proofs.Common.{◌≡◌, ℕ, ◌≤◌, Some, None, arith}
+use Rattle.std.proofs.Common.{◌≡◌, ℕ, ◌≤◌, None, arith}
 use Rattle.std.proofs.lemmas.Bool.Decides.{nat_tests}
 use Rattle.contract.specs.Meaning.{Meaning, lowest}
 use Rattle.contract.specs.Faults.{grant_refusal}

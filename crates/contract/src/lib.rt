@@ -1,4 +1,6 @@
 // What a supply contract answers and grants, whatever its kind, and how a call is refused.
+#![tactic(auto)]
+
 mod faults;
 mod service;
 

@@ -8,9 +8,9 @@ use contract::{Contract, Fault};
 
 // Asks the contract for `level` in the next slot.
 pub fn dispatch<C: Contract>(contract: &mut C, level: u64) -> Result<(), Fault>
-    ensures answer { refusal result ≡ grant_refusal (meaning contract.old) level }
-    ensures after { meaning contract.new ≡ unless_refused (refusal result) (meaning contract.old) (granted (meaning contract.old) level) }
-    ensures asked { Asked (meaning contract.old) (meaning contract.new) level (refusal result) }
+    ensures answer { refusal result ≡ grant_refusal (C.meaning contract.old) level }
+    ensures after { C.meaning contract.new ≡ unless_refused (refusal result) (C.meaning contract.old) (granted (C.meaning contract.old) level) }
+    ensures asked { Asked (C.meaning contract.old) (C.meaning contract.new) level (refusal result) }
     ensures promise { DispatchPromise }
 {
     contract.grant(level)

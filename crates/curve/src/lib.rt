@@ -1,4 +1,6 @@
 // What contracts promise: their service curve, lawful lists of levels, and the dispatcher's grants.
+#![tactic(auto)]
+
 mod dispatching;
 mod examples;
 

@@ -31,8 +31,8 @@ impl<C: Contract> Evening<C> {
 
     // Asks for the level that the line writes. A refused line changes nothing.
     fn ask(&mut self, line: &[u8]) -> Result<u64, Fault>
-        ensures answer { MatchResult result (GrantedLine (meaning self.old.contract) line.now) (λ e. RefusedLine (meaning self.old.contract) line.now (code e)) }
-        ensures held { MatchResult result (λ level. meaning self.new.contract ≡ granted (meaning self.old.contract) level) (λ _. meaning self.new.contract ≡ meaning self.old.contract) }
+        ensures answer { MatchResult result (GrantedLine (C.meaning self.old.contract) line.now) (λ e. RefusedLine (C.meaning self.old.contract) line.now (code e)) }
+        ensures held { MatchResult result (λ level. C.meaning self.new.contract ≡ granted (C.meaning self.old.contract) level) (λ _. C.meaning self.new.contract ≡ C.meaning self.old.contract) }
         ensures slots { MatchResult result (λ _. self.new.slots ≡ counted self.old.slots 1) (λ _. self.new.slots ≡ self.old.slots) }
         ensures energy { MatchResult result (λ level. self.new.energy ≡ counted self.old.energy level) (λ _. self.new.energy ≡ self.old.energy) }
     {
@@ -45,7 +45,7 @@ impl<C: Contract> Evening<C> {
 
     // What comes of line number `count`.
     pub fn answer(&mut self, count: u64, line: &[u8]) -> Reply
-        ensures { Replies (books (meaning self.old.contract) self.old.slots self.old.energy) (books (meaning self.new.contract) self.new.slots self.new.energy) count line.now result }
+        ensures { Replies (books (C.meaning self.old.contract) self.old.slots self.old.energy) (books (C.meaning self.new.contract) self.new.slots self.new.energy) count line.now result }
     {
         match self.ask(line) {
             Ok(level) => Reply::Granted(self.slots, level),
@@ -55,7 +55,7 @@ impl<C: Contract> Evening<C> {
 
     // How the evening ends: slots, energy, and the lowest level that may come next.
     pub fn end(&self) -> Reply
-        ensures { result ≡ Ends self.now.slots self.now.energy (lowest (meaning self.now.contract)) }
+        ensures { result ≡ Ends self.now.slots self.now.energy (lowest (C.meaning self.now.contract)) }
     {
         Reply::Ends(self.slots, self.energy, self.contract.lowest())
     }

@@ -1,4 +1,6 @@
 // A dispatcher's evening on one contract: lines come in that ask for levels, and each is answered.
+#![tactic(auto)]
+
 mod evenings;
 mod numerals;
 mod replies;

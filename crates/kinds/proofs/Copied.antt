@@ -1,7 +1,6 @@
 -- A list copied into the front of an array of zeros.
-use Rattle.std.proofs.Common.{◌≡◌, ℕ, ◌+◌, ◌<◌, ◌≤◌, ◌≢◌, List, length, get_or, take, set, sym, refl, ap, ◌∙◌, ⊎_elim, arith, below_more}
-use Rattle.std.proofs.lemmas.List.{ext_get_or, length-set, length-take-le, get_or-take, get_or-set_same, get_or-set_other}
-use Rattle.std.proofs.lemmas.Bool.{cases_lt}
+use Rattle.std.proofs.Common.{◌≡◌, ℕ, ◌+◌, ◌<◌, ◌≤◌, ◌≢◌, List, length, get_or, take, set, ◌∙◌, arith, below_more}
+use Rattle.std.proofs.lemmas.List.{ext_get_or, length-take-le, get_or-take, get_or-set_same, get_or-set_other}
 
 -- the first i places of r are those of xs
 abbrev pub Copied : List ℕ → List ℕ → ℕ → Type 0

@@ -1,5 +1,5 @@
 -- What needs that are not refused meet.
-use Rattle.std.proofs.Common.{◌≡◌, ℕ, ◌≤◌, List, length, Some, None, arith}
+use Rattle.std.proofs.Common.{◌≡◌, ℕ, List, length, None, arith}
 use Rattle.std.proofs.lemmas.Bool.Decides.{nat_tests}
 use Rattle.kinds.specs.Kinds.{needs_refusal, too_great}
 use Rattle.kinds.specs.Sizes.{Sizes}

@@ -1,5 +1,5 @@
 -- What a switch and a table mean when new, and what their making refuses.
-use Rattle.std.specs.Prelude.{ℕ, ◌-◌, ◌*◌, Bool, ◌||◌, ltb, List, map, length, replicate, None, Option, nat_lt}
+use Rattle.std.specs.Prelude.{ℕ, ◌-◌, ◌*◌, Bool, ◌||◌, List, map, length, replicate, None, Option, nat_lt}
 use Rattle.std.specs.List.{range_with_len}
 use Rattle.contract.specs.declared.faults.Code.{Code}
 use Rattle.contract.specs.declared.faults.Fault.{Fault}
@@ -51,7 +51,7 @@ new_table top needs = begun top (length needs) needs
 
 -- the first need, from length k on, that is above its length times the cap
 abbrev pub too_great : ℕ → ℕ → List ℕ → Option Code
-too_great top = first_failing (λ k x. ltb (k * top) x) 5
+too_great top = first_failing (λ k x. nat_lt (k * top) x) 5
 
 abbrev pub needs_refusal : ℕ → List ℕ → Option Code
 needs_refusal top needs =

@@ -1,10 +1,10 @@
 -- A list that is read from place 1 on, with 0 outside it.
-use Rattle.std.specs.Prelude.{◌≡◌, ℕ, zero, suc, ◌-◌, ◌*◌, ◌<◌, ◌≤◌, List, [], ◌∷◌, length, take, slice_index, slice_index_or, refl}
-use Rattle.std.proofs.Common.{sym, ap, ◌∙◌, subst, ⊎_elim, arith}
+use Rattle.std.specs.Prelude.{◌≡◌, ℕ, zero, suc, ◌-◌, ◌*◌, ◌<◌, ◌≤◌, List, ◌∷◌, length, take, slice_index, slice_index_or}
+use Rattle.std.proofs.Common.{sym, ◌∙◌, subst, ⊎_elim, arith}
 use Rattle.std.proofs.lemmas.List.FromFn.{length-map-range_with_len, get_or-map-range_with_len}
 use Rattle.std.proofs.lemmas.List.{get_or_past, get_or-take}
 use Rattle.std.proofs.lemmas.Bool.{cases_lt}
-use Rattle.kinds.specs.Kinds.{needs_by}
+use Rattle.kinds.specs.Kinds.{needs_by, switch_need}
 
 place_in : (xs : List ℕ) (k : ℕ) → 1 ≤ k → slice_index (0 ∷ xs) k ≡ slice_index xs (k - 1)
 place_in xs zero h = absurd (omega arith)
@@ -46,3 +46,7 @@ module _ (f : ℕ → ℕ) (n : ℕ) where
       let h : k ≤ n = omega (arith, length-needs_by) in
       let e : slice_index_or (needs_by f n) (k - 1) 0 ≡ f k = get_or-map-range_with_len f 1 n (k - 1) k 0 (omega arith) (omega arith) in
       rw e (each k low h))
+
+-- a switch owes no window more than the cap in each slot
+pub switch_need_most : (top allowance k : ℕ) → switch_need top allowance k ≤ k * top
+switch_need_most top allowance k = omega arith

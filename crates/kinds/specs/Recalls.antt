@@ -1,5 +1,5 @@
 -- Contracts whose recall is the front of a ring.
-use Rattle.std.specs.Prelude.{◌≡◌, ℕ, zero, suc, ◌-◌, ◌*◌, ◌<◌, ◌≤◌, List, [], ◌∷◌, length, take, replicate, slice_index, refl}
+use Rattle.std.specs.Prelude.{◌≡◌, ℕ, zero, suc, ◌-◌, ◌*◌, ◌≤◌, List, ◌∷◌, length, take, replicate, slice_index, refl}
 use Rattle.std.proofs.Common.{sym, ap, ◌∙◌, subst, ⊎_elim, arith}
 use Rattle.std.proofs.lemmas.List.{get_or-take, length-take-le, take-take, get_or-replicate, length-replicate, length-take, take-replicate, get_or_past}
 use Rattle.std.proofs.lemmas.Bool.{cases_lt}

@@ -1,4 +1,6 @@
 // Contracts that stand on their own: the switch and the table of needs.
+#![tactic(auto)]
+
 mod needs;
 mod rings;
 mod switches;

@@ -1,5 +1,5 @@
 -- Laws of every layer, whatever it adds to the needs.
-use Rattle.std.specs.Prelude.{◌≡◌, ℕ, zero, suc, ◌-◌, ◌*◌, ◌<◌, ◌≤◌, max, false, List, ◌∷◌, length, take, replicate, None, Option, refl}
+use Rattle.std.specs.Prelude.{◌≡◌, ℕ, zero, suc, ◌-◌, ◌*◌, ◌<◌, ◌≤◌, max, false, List, ◌∷◌, take, replicate, None, Option}
 use Rattle.std.proofs.Common.{sym, ap, ◌∙◌, arith}
 use Rattle.contract.specs.declared.faults.Code.{Code}
 use Rattle.contract.specs.Meaning.{Meaning, Limits, New, memory, need, owed, greatest, lowest, granted}

@@ -23,9 +23,9 @@ impl<C: Contract> Extra<C> {
     // Refuses needs that are none, longer than the memory below or above their limit, and a contract that
     // recalls a level under the cap.
     pub fn new(below: C, needs: &[u64]) -> Result<Extra<C>, Returned<C>>
-        ensures answer { Answers result (extra_refusal (meaning below) needs.now) }
+        ensures answer { Answers result (extra_refusal (C.meaning below) needs.now) }
         ensures made { MatchResult result (λ s. (s.below ≡ below) × (listed s.own ≡ needs.now)) (λ e. e.contract ≡ below) }
-        ensures begun { IfOk result (λ s. New (extended (meaning s.below) (listed s.own))) }
+        ensures begun { IfOk result (λ s. New (extended (C.meaning s.below) (listed s.own))) }
     {
         if needs.len() > below.memory() as usize {
             return Err(Returned {

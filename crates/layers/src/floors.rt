@@ -20,10 +20,10 @@ pub struct Floor<C> {
 impl<C: Contract> Floor<C> {
     // Refuses a floor above the cap, and a contract that recalls a level under it.
     pub fn new(below: C, floor: u64) -> Result<Floor<C>, Returned<C>>
-        ensures answer { Answers result (floor_refusal (meaning below) floor) }
+        ensures answer { Answers result (floor_refusal (C.meaning below) floor) }
         ensures fault { IfErr result (λ e. FloorFault e.fault) }
         ensures made { MatchResult result (λ s. (s.below ≡ below) × (s.floor ≡ floor)) (λ e. e.contract ≡ below) }
-        ensures begun { IfOk result (λ s. New (floored (meaning s.below) s.floor)) }
+        ensures begun { IfOk result (λ s. New (floored (C.meaning s.below) s.floor)) }
     {
         if floor > below.cap() as u64 {
             return Err(Returned {

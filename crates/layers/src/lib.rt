@@ -1,4 +1,6 @@
 // Contracts laid over any other contract: the floor and the extra. They pile up.
+#![tactic(auto)]
+
 mod extras;
 mod floors;
 mod over;

@@ -22,7 +22,7 @@ impl<C: Drop> From<Returned<C>> for Fault {
 
 // Whether a recalled level is under the cap, as on no new contract.
 pub(crate) fn recalls_under_cap<C: Contract>(contract: &C) -> bool
-    ensures { result ≡ any_under (meaning contract.now).«cap» (meaning contract.now).recall }
+    ensures { result ≡ any_under (C.meaning contract.now).«cap» (C.meaning contract.now).recall }
 {
     let cap = contract.cap();
     for slots in 1..contract.memory() {

@@ -25,8 +25,8 @@ pub struct Evening<C> {
 
 // Asks for the level that the line writes. A refused line changes nothing.
 fn ask<C: Contract>(contract: &mut C, line: &[u8]) -> Result<u32, Fault>
-    ensures answer { MatchResult result (GrantedLine (meaning contract.old) line.now) (λ e. RefusedLine (meaning contract.old) line.now (code e)) }
-    ensures held { MatchResult result (λ level. meaning contract.new ≡ granted (meaning contract.old) level) (λ _. meaning contract.new ≡ meaning contract.old) }
+    ensures answer { MatchResult result (GrantedLine (C.meaning contract.old) line.now) (λ e. RefusedLine (C.meaning contract.old) line.now (code e)) }
+    ensures held { MatchResult result (λ level. C.meaning contract.new ≡ granted (C.meaning contract.old) level) (λ _. C.meaning contract.new ≡ C.meaning contract.old) }
 {
     let level = level_of(line)?;
     dispatch(contract, level)?;
@@ -36,7 +36,7 @@ fn ask<C: Contract>(contract: &mut C, line: &[u8]) -> Result<u32, Fault>
 impl<C: Contract> Evening<C> {
     pub fn new(heap: Global, contract: C) -> Evening<C>
         ensures made { (result.contract ≡ contract) × (result.levels.items ≡ []) × (result.energy ≡ 0) }
-        ensures begun { New (meaning contract) → KeptBy (meaning contract) (books (meaning result.contract) result.levels.items result.energy) }
+        ensures begun { New (C.meaning contract) → KeptBy (C.meaning contract) (books (C.meaning result.contract) result.levels.items result.energy) }
     {
         Evening {
             contract,
@@ -47,10 +47,10 @@ impl<C: Contract> Evening<C> {
 
     // What comes of line number `count`. Want of memory leaves all as it was.
     pub fn answer(&mut self, count: u64, line: &[u8]) -> Result<Reply, AllocError>
-        ensures reply { IfOk result (Replies (books (meaning self.old.contract) self.old.levels.items self.old.energy) (books (meaning self.new.contract) self.new.levels.items self.new.energy) count line.now) }
+        ensures reply { IfOk result (Replies (books (C.meaning self.old.contract) self.old.levels.items self.old.energy) (books (C.meaning self.new.contract) self.new.levels.items self.new.energy) count line.now) }
         ensures wanting { OnErr result (vec_capacity self.old.levels ≤ vec_len self.old.levels) }
-        ensures unchanged { OnErr result (books (meaning self.new.contract) self.new.levels.items self.new.energy ≡ books (meaning self.old.contract) self.old.levels.items self.old.energy) }
-        ensures kept { (first : Meaning) → KeptBy first (books (meaning self.old.contract) self.old.levels.items self.old.energy) → KeptBy first (books (meaning self.new.contract) self.new.levels.items self.new.energy) }
+        ensures unchanged { OnErr result (books (C.meaning self.new.contract) self.new.levels.items self.new.energy ≡ books (C.meaning self.old.contract) self.old.levels.items self.old.energy) }
+        ensures kept { (first : Meaning) → KeptBy first (books (C.meaning self.old.contract) self.old.levels.items self.old.energy) → KeptBy first (books (C.meaning self.new.contract) self.new.levels.items self.new.energy) }
     {
         // Room first, so that a level that was granted is never lost.
         self.levels.reserve(1)?;
@@ -67,9 +67,9 @@ impl<C: Contract> Evening<C> {
     // Forecasts as many slots as `list` has places, and writes their levels there.
     pub fn foresee(&self, list: &mut [u32]) -> Result<Reply, Fault>
         ensures answer { refusal result ≡ forecast_refusal (length list.old) (length list.old) }
-        ensures reply { IfOk result (λ a. a ≡ Foresees (length list.old) (forecast_energy (meaning self.now.contract) (length list.old))) }
-        ensures after { list.new ≡ list_after (meaning self.now.contract) (length list.old) list.old }
-        ensures worst { OnOk result ((first : Meaning) → KeptBy first (books (meaning self.now.contract) self.now.levels.items self.now.energy) → Worst first (reverse self.now.levels.items) (length list.old) (forecast_energy (meaning self.now.contract) (length list.old)) list.new) }
+        ensures reply { IfOk result (λ a. a ≡ Foresees (length list.old) (forecast_energy (C.meaning self.now.contract) (length list.old))) }
+        ensures after { list.new ≡ list_after (C.meaning self.now.contract) (length list.old) list.old }
+        ensures worst { OnOk result ((first : Meaning) → KeptBy first (books (C.meaning self.now.contract) self.now.levels.items self.now.energy) → Worst first (reverse self.now.levels.items) (length list.old) (forecast_energy (C.meaning self.now.contract) (length list.old)) list.new) }
     {
         let slots = list.len() as u64;
         let energy = forecast(&self.contract, slots, list)?;
@@ -78,7 +78,7 @@ impl<C: Contract> Evening<C> {
 
     // How the evening ends: slots, energy, and the lowest level that may come next.
     pub fn end(&self) -> Reply
-        ensures { result ≡ Ends (length self.now.levels.items) self.now.energy (lowest (meaning self.now.contract)) }
+        ensures { result ≡ Ends (length self.now.levels.items) self.now.energy (lowest (C.meaning self.now.contract)) }
     {
         Reply::Ends(
             self.levels.len() as u64,
@@ -89,8 +89,8 @@ impl<C: Contract> Evening<C> {
 
     // Whether the levels granted kept the contract; they did, unless it was not new when the evening began.
     pub fn judge(&self) -> Reply
-        ensures judged { JudgedReply (meaning self.now.contract) self.now.levels.items result }
-        ensures kept { (first : Meaning) → KeptBy first (books (meaning self.now.contract) self.now.levels.items self.now.energy) → KeptReply self.now.levels.items result }
+        ensures judged { JudgedReply (C.meaning self.now.contract) self.now.levels.items result }
+        ensures kept { (first : Meaning) → KeptBy first (books (C.meaning self.now.contract) self.now.levels.items self.now.energy) → KeptReply self.now.levels.items result }
     {
         match verdict(&self.contract, self.levels.as_slice()) {
             Ok(verdict) => Reply::Judges(verdict),

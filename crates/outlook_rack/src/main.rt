@@ -1,5 +1,7 @@
 // A dispatcher's evening: requested levels come in, one to a line, and the rack says what it grants, what can still
 // come, and whether the contract was kept.
+#![tactic(auto)]
+
 use contract::Contract;
 use kinds::Switch;
 use layers::Floor;

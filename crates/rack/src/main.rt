@@ -1,4 +1,6 @@
 // A dispatcher's evening: requested levels come in, one to a line, and the rack says what it grants.
+#![tactic(auto)]
+
 use contract::Contract;
 use evening::{Evening, Terms, number_of, opening};
 use std::env;

@@ -1,4 +1,6 @@
 // What the benchmark calls from Rust: only numbers and slices pass between the two.
+#![tactic(auto)]
+
 ghost use Rattle.std.specs.Prelude.{◌≡◌, length, IfOk};
 ghost use Rattle.contract.specs.Faults.{refusal, unless_refused};
 ghost use Rattle.contract.specs.Meaning.{granted};

@@ -28,7 +28,7 @@ fn next_length(conditions: &Conditions, shorter: &[u32]) -> u32
 // Writes the curve at lengths 1, 2 and so on, one to each place of `list`.
 pub fn write_curve<C: Contract>(contract: &C, list: &mut [u32]) -> Result<(), Fault>
     ensures answer { refusal result ≡ curve_refusal (length list.old) }
-    ensures after { CurveList (meaning contract.now) (refusal result) list.old list.new }
+    ensures after { CurveList (C.meaning contract.now) (refusal result) list.old list.new }
 {
     if list.len() > LEVELS_MOST {
         return Err(Fault::TooLong);

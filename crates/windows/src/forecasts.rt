@@ -14,9 +14,9 @@ const SLOTS_MOST: u64 = 192;
 // Writes the lowest levels of the next `slots` slots to the front of `list`, and gives their energy.
 pub fn forecast<C: Contract>(contract: &C, slots: u64, list: &mut [u32]) -> Result<u32, Fault>
     ensures answer { refusal result ≡ forecast_refusal slots (length list.old) }
-    ensures energy { IfOk result (λ e. e ≡ forecast_energy (meaning contract.now) slots) }
-    ensures after { list.new ≡ list_after (meaning contract.now) slots list.old }
-    ensures foreseen { IfOk result (λ e. Foreseen (meaning contract.now) slots e list.new) }
+    ensures energy { IfOk result (λ e. e ≡ forecast_energy (C.meaning contract.now) slots) }
+    ensures after { list.new ≡ list_after (C.meaning contract.now) slots list.old }
+    ensures foreseen { IfOk result (λ e. Foreseen (C.meaning contract.now) slots e list.new) }
     ensures promise { ContractPromise }
 {
     if slots > SLOTS_MOST || slots > list.len() as u64 {

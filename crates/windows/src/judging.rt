@@ -62,9 +62,9 @@ fn decided(tightest: Option<Tightest>) -> Verdict
 
 // Judges levels that were granted one after the other, begun on a new contract with this one's cap, memory and needs.
 pub fn verdict<C: Contract>(contract: &C, record: &[u32]) -> Result<Verdict, Fault>
-    ensures answer { refusal result ≡ verdict_refusal (meaning contract.now) «record».now }
-    ensures judged { IfOk result (Judges (meaning contract.now) «record».now) }
-    ensures only { IfOk result (λ v. (w : Verdict) → Judges (meaning contract.now) «record».now w → v ≡ w) }
+    ensures answer { refusal result ≡ verdict_refusal (C.meaning contract.now) «record».now }
+    ensures judged { IfOk result (Judges (C.meaning contract.now) «record».now) }
+    ensures only { IfOk result (λ v. (w : Verdict) → Judges (C.meaning contract.now) «record».now w → v ≡ w) }
 {
     let conditions = Conditions::of(contract);
     check_levels(conditions.cap, record)?;

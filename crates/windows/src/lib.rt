@@ -1,4 +1,6 @@
 // What the windows of a contract tell: forecasts, verdicts on records, and the service curve for callers.
+#![tactic(auto)]
+
 mod conditions;
 mod curves;
 mod forecasts;

@@ -37,7 +37,7 @@ impl Windows {
 
     // With the slots that the contract recalls.
     pub(crate) fn recalled<C: Contract>(contract: &C) -> Windows
-        ensures sums { Recent (meaning contract.now) result.sums }
+        ensures sums { Recent (C.meaning contract.now) result.sums }
         ensures low { Low result.sums }
     {
         let mut sums = [0; 96];

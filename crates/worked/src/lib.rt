@@ -1,4 +1,6 @@
 // Examples worked by hand, as the definitions have them and as the calls answer.
+#![tactic(auto)]
+
 ghost use Rattle.std.specs.Prelude.{◌≡◌, [], ◌∷◌, Some};
 ghost use Rattle.contract.specs.Faults.{contract_fault};
 ghost use Rattle.worked.specs.Examples.{Worked, answered, hand_verdict, told};

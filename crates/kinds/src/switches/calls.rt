@@ -4,8 +4,7 @@ ghost use Rattle.contract.specs.Faults.{refusal};
 ghost use Rattle.contract.specs.Meaning.{New};
 ghost use Rattle.kinds.specs.Kinds.{SwitchFault, new_switch, switch_refusal, switch_need, needs_by};
 ghost use Rattle.kinds.specs.Switches.{switch_meaning};
-ghost use Rattle.std.proofs.Common.{arith};
-ghost use Rattle.kinds.specs.Places.{length-needs_by, need_by_most};
+ghost use Rattle.kinds.specs.Places.{length-needs_by, need_by_most, switch_need_most};
 ghost use Rattle.kinds.specs.Recalls.{limits_ring};
 
 use super::Switch;
@@ -50,7 +49,7 @@ impl Contract for Switch {
     ghost limits = { λ s.
         let f = switch_need s.«cap» s.allowance in
         limits_ring s.«cap» s.memory (needs_by f s.memory) (length-needs_by f s.memory) s.ring s.sizes
-        (need_by_most f s.memory s.«cap» (λ k low high. omega arith))
+        (need_by_most f s.memory s.«cap» (λ k low high. switch_need_most s.«cap» s.allowance k))
         s.held };
 
     fn kind(&self) -> char {

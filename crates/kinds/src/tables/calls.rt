@@ -1,10 +1,9 @@
 // The making of a table, and its answers.
-ghost use Rattle.std.specs.Prelude.{◌≡◌, IfOk, refl};
+ghost use Rattle.std.specs.Prelude.{◌≡◌, IfOk, length, refl};
 ghost use Rattle.contract.specs.Faults.{refusal};
 ghost use Rattle.contract.specs.Meaning.{New};
 ghost use Rattle.kinds.specs.Kinds.{new_table, needs_refusal};
 ghost use Rattle.kinds.specs.Tables.{table_meaning};
-ghost use Rattle.std.proofs.Math.ListN;
 ghost use Rattle.kinds.specs.Listed.{listed};
 ghost use Rattle.kinds.specs.Recalls.{limits_ring};
 
@@ -34,7 +33,7 @@ impl Contract for Table {
 
     ghost meaning = { table_meaning };
 
-    ghost limits = { λ s. limits_ring s.«cap» (ListN.length (listed s.needs)) (listed s.needs) refl s.ring s.sizes s.most s.held };
+    ghost limits = { λ s. limits_ring s.«cap» (length (listed s.needs)) (listed s.needs) refl s.ring s.sizes s.most s.held };
 
     fn kind(&self) -> char {
         Self::LETTER

@@ -6,7 +6,7 @@ use contract::Contract;
 
 impl Conditions {
     pub(crate) fn of<C: Contract>(contract: &C) -> Conditions
-        ensures { Copies (meaning contract.now) result }
+        ensures { Copies (C.meaning contract.now) result }
     {
         let memory = contract.memory();
         let mut needs = [0; 96];

@@ -10,11 +10,11 @@ use Rattle.worked.proofs.worked_plan.Goals as goal
 
 pub returns : goal.returns
 returns c =
-    let made = c.in-ok-switch.ensures.made in
-    let after : switch_meaning c.dispatch.new.contract ≡ granted hand_switch 40 = c.in-ok-dispatch.ensures.after ∙ ap (λ (m : Meaning). granted m 40) made in
+    let made = c.in_ok-switch.ensures.made in
+    let after : switch_meaning c.dispatch.new.contract ≡ granted hand_switch 40 = c.in_ok-dispatch.ensures.after ∙ ap (λ (m : Meaning). granted m 40) made in
     let xs : List ℕ = 40 ∷ 30 ∷ 100 ∷ [] in
-    let judged : c.in-ok-judged.judged ≡ hand_verdict = c.in-ok-judged.ensures.only hand_verdict (subst (λ (m : Meaning). Judges m xs hand_verdict) (sym made) hand_judged) in
-    let levels : c.forecast.new.list ≡ 60 ∷ 100 ∷ [] = c.in-ok-energy.ensures.after ∙ ap (λ (m : Meaning). list_after m 2 (0 ∷ 0 ∷ [])) after in
-    let energy : c.in-ok-energy.energy ≡ 160 = c.in-ok-energy.ensures.energy ∙ ap (λ (m : Meaning). forecast_energy m 2) after in
+    let judged : c.in_ok-judged.judged ≡ hand_verdict = c.in_ok-judged.ensures.only hand_verdict (subst (λ (m : Meaning). Judges m xs hand_verdict) (sym made) hand_judged) in
+    let levels : c.forecast.new.list ≡ 60 ∷ 100 ∷ [] = c.in_ok-energy.ensures.after ∙ ap (λ (m : Meaning). list_after m 2 (0 ∷ 0 ∷ [])) after in
+    let energy : c.in_ok-energy.energy ≡ 160 = c.in_ok-energy.ensures.energy ∙ ap (λ (m : Meaning). forecast_energy m 2) after in
     let of : Verdict → List ℕ → ℕ → Option (Verdict × List ℕ × ℕ) = λ v l e. Some (v, l, e) in
-    ap (λ (v : Verdict). of v c.forecast.new.list c.in-ok-energy.energy) judged ∙ ap (λ (l : List ℕ). of hand_verdict l c.in-ok-energy.energy) levels ∙ ap (of hand_verdict (60 ∷ 100 ∷ [])) energy
+    ap (λ (v : Verdict). of v c.forecast.new.list c.in_ok-energy.energy) judged ∙ ap (λ (l : List ℕ). of hand_verdict l c.in_ok-energy.energy) levels ∙ ap (of hand_verdict (60 ∷ 100 ∷ [])) energy

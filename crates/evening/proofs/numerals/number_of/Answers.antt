@@ -5,11 +5,11 @@ use Rattle.evening.specs.Numerals.{digit}
 use Rattle.evening.proofs.Tens.{tens_more, tens_small, one_digit_more}
 use Rattle.evening.proofs.numerals.number_of.Goals as goal
 
-pub overflow-mul-number : goal.overflow-mul-number
-overflow-mul-number c = omega (arith, tens_small c.loop-b.b-index c.loop-b.number (omega arith) c.loop-b.invariant.2)
+pub overflow_mul-number : goal.overflow_mul-number
+overflow_mul-number c = omega (arith, tens_small c.loop-b.b-index c.loop-b.number (omega arith) c.loop-b.invariant.2)
 
-pub overflow-add-number : goal.overflow-add-number
-overflow-add-number c = omega (arith, tens_small c.loop-b.b-index c.loop-b.number (omega arith) c.loop-b.invariant.2)
+pub overflow_add-number : goal.overflow_add-number
+overflow_add-number c = omega (arith, tens_small c.loop-b.b-index c.loop-b.number (omega arith) c.loop-b.invariant.2)
 
 pub loop-b-preserved : goal.loop-b-preserved
 loop-b-preserved c = (
@@ -23,10 +23,10 @@ pub returns : goal.returns
 returns c =
     let bs = c.args.bytes.now in
     let all : length (map digit bs) ≤ c.loop-b.b-index = rw length-map c.loop-b-test.false in
-    let some = false-eqb (length bs) 0 c.if-is-empty.ensures in (
+    let some = false-eqb (length bs) 0 c.if-is_empty.ensures in (
       record {
         some = omega (arith, some);
-        few = c.if-bytes-gt-DIGITS-MOST.false;
+        few = c.if-bytes-gt-DIGITS_MOST.false;
         digits = λ k h. c.loop-b.invariant.3 k (omega arith);
         lead = λ e. ⊎_elim (λ h. omega (arith, some)) (λ h. absurd (h e)) c.else-bytes-eq48.either;
       },

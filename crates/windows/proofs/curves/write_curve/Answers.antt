@@ -8,8 +8,8 @@ use Rattle.contract.proofs.Copied.{copied_all}
 use Rattle.windows.proofs.Bests.{written_low, written_more}
 use Rattle.windows.proofs.curves.write_curve.Goals as goal
 
-pub next-length-requires : goal.next-length-requires
-next-length-requires g c =
+pub next_length-requires : goal.next_length-requires
+next_length-requires g c =
     let m = g.C.Contract.meaning c.args.contract.now in
     let s = g.met.C.Contract.limits c.args.contract.now in
     written_low m s c.loop-i.list c.loop-i.i c.loop-i.invariant.1 (omega arith)
@@ -25,8 +25,8 @@ loop-i-preserved g c =
     let copies = c.of-conditions.ensures in
     let read : take conditions.memory conditions.needs ≡ m.needs =
     ap (λ n. take n conditions.needs) copies.1 ∙ copied_all conditions.needs m.needs (omega (arith, long, s.memory_most)) copies.2 in (
-      length-set list i c.next-length.result ∙ c.loop-i.invariant.0,
-      written_more m s list i c.loop-i.invariant.1 (take conditions.memory conditions.needs) c.next-length.result (omega (arith, c.loop-i.invariant.0)) read c.next-length.ensures,
+      length-set list i c.next_length.result ∙ c.loop-i.invariant.0,
+      written_more m s list i c.loop-i.invariant.1 (take conditions.memory conditions.needs) c.next_length.result (omega (arith, c.loop-i.invariant.0)) read c.next_length.ensures,
     )
 
 pub returns : goal.returns

@@ -8,12 +8,12 @@ use Rattle.windows.specs.Sums.{Recent}
 use Rattle.windows.proofs.Sliding.{copies_ahead}
 use Rattle.windows.proofs.forecasts.forecast.Goals as goal
 
-pub returns-then-slots-gt-SLOTS-MOST : goal.returns-then-slots-gt-SLOTS-MOST
-returns-then-slots-gt-SLOTS-MOST g c =
+pub returns-then-slots-gt-SLOTS_MOST : goal.returns-then-slots-gt-SLOTS_MOST
+returns-then-slots-gt-SLOTS_MOST g c =
     let m = g.C.Contract.meaning c.args.contract.now in
     let n = c.args.slots in
     let list = c.args.list.now in
-    let refused = forecast_refused n (length list) c.then-slots-gt-SLOTS-MOST.either in
+    let refused = forecast_refused n (length list) c.then-slots-gt-SLOTS_MOST.either in
     record { answer = sym refused; energy = tt; after = sym (list_left m n list (list_fault 14) refused); foreseen = tt; promise = contract_promise }
 
 pub loop-i-preserved : goal.loop-i-preserved

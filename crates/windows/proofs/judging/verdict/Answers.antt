@@ -16,15 +16,15 @@ loop-i-init g c =
     let s = g.met.C.Contract.limits c.args.contract.now in
     let top = c.of-conditions.ensures.0 in (
       refl,
-      c.at-cap-windows.ensures.low,
+      c.at_cap-windows.ensures.low,
       λ k (h : k < memory m).
-          c.at-cap-windows.ensures.sums k (omega (arith, s.memory_most)) ∙ ap (λ t. suc k * t) top ∙ sym (energy_past m.«cap» (suc k)),
+          c.at_cap-windows.ensures.sums k (omega (arith, s.memory_most)) ∙ ap (λ t. suc k * t) top ∙ sym (energy_past m.«cap» (suc k)),
     )
 
 pub slide-requires : goal.slide-requires
 slide-requires g c =
     let conditions = c.of-conditions.result in
-    let within = within_cap conditions.«cap» c.args.«record».now (sym c.in-ok-check-levels.ensures) c.loop-i.i (omega arith) in
+    let within = within_cap conditions.«cap» c.args.«record».now (sym c.in_ok-check_levels.ensures) c.loop-i.i (omega arith) in
     record { level = omega (arith, within, conditions.capped); memory = conditions.few; low = c.loop-i.invariant.1 }
 
 pub loop-i-preserved : goal.loop-i-preserved
@@ -48,7 +48,7 @@ returns g c =
     let s = g.met.C.Contract.limits c.args.contract.now in
     let xs = c.args.«record».now in
     let done : c.loop-i.i ≡ length xs = omega arith in
-    let none : None ≡ first_above m.«cap» 1 xs = c.in-ok-check-levels.ensures ∙ ap (λ t. first_above t 1 xs) c.of-conditions.ensures.0 in
+    let none : None ≡ first_above m.«cap» 1 xs = c.in_ok-check_levels.ensures ∙ ap (λ t. first_above t 1 xs) c.of-conditions.ensures.0 in
     let judged = judges m s xs (each_within m.«cap» xs (within_cap m.«cap» xs (sym none))) c.loop-i.tightest c.decided.result (subst (λ n. Tells m xs n c.loop-i.tightest) done c.loop-i.invariant.0) c.decided.ensures in
     record {
       answer = sym (ap (λ t. refuse_if t (list_fault 15) None) (le-ltb 65535 (length xs) (omega arith))) ∙ ap (λ t. or_else t (refuse_if (ltb 65535 (length xs)) (list_fault 15) None)) none;

@@ -3,8 +3,8 @@ use Rattle.contract.specs.Meaning.{owed}
 use Rattle.contract.proofs.Levels.{greatest_more, newest_more}
 use Rattle.contract.proofs.service.Contract.lowest.Goals as goal
 
-pub overflow-add-recent : goal.overflow-add-recent
-overflow-add-recent g c =
+pub overflow_add-recent : goal.overflow_add-recent
+overflow_add-recent g c =
     let limits = g.met.Self.Contract.limits c.args.self.now in
     omega (arith, limits.recall_most c.loop-k.k, c.back-recent.ensures)
 

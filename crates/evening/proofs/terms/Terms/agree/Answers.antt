@@ -12,13 +12,13 @@ neither told m n floor e same f = sym (ap (λ o. or_else o (floor_refusal n floo
 
 pub returns : goal.returns
 returns c =
-    let below = c.in-ok-switch.ensures in
-    let laid = c.in-ok-contract.ensures in
+    let below = c.in_ok-switch.ensures in
+    let laid = c.in_ok-contract.ensures in
     record {
       answer = neither _ _ _ c.args.self.floor below.answer below.made laid.answer;
       made =
-          ap (λ s. floored (switch_meaning s) c.in-ok-contract.contract.floor) laid.made.0
-          ∙ ap (λ m. floored m c.in-ok-contract.contract.floor) below.made
+          ap (λ s. floored (switch_meaning s) c.in_ok-contract.contract.floor) laid.made.0
+          ∙ ap (λ m. floored m c.in_ok-contract.contract.floor) below.made
           ∙ ap (floored _) laid.made.1;
       begun = laid.begun;
     }

@@ -2,7 +2,6 @@ use Rattle.std.proofs.Common.{◌≡◌, ◌-◌, ◌*◌, ltb, length, take, sy
 use Rattle.std.proofs.lemmas.List.{length-set}
 use Rattle.std.proofs.lemmas.Bool.{lt-ltb, le-ltb}
 use Rattle.std.proofs.lemmas.Bool.Decides.{nat_tests}
-use Rattle.kinds.specs.Kinds.{too_great}
 use Rattle.kinds.proofs.Copied.{copied_more, copied_all}
 use Rattle.kinds.proofs.Scans.{fails_here, fails_later, fails_nowhere}
 use Rattle.kinds.proofs.needs.Needs.new.Goals as goal

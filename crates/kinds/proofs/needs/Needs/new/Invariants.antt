@@ -1,7 +1,7 @@
 use Rattle.std.proofs.Common.{◌≡◌, ◌+◌, length, drop}
 use Rattle.kinds.specs.Kinds.{too_great}
 use Rattle.kinds.proofs.Copied.{Copied}
-use Rattle.kinds.proofs.needs.Goals.new.Given as goal
+use Rattle.kinds.proofs.needs.Needs.new.Given as goal
 
 -- the needs up to i are copied, and those from i on decide
 abbrev pub invariant-loop-i : goal.invariant-loop-i

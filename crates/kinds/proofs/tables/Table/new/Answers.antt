@@ -14,25 +14,29 @@ sizes_kept top xs ys e = subst (λ l. Sizes top (length l)) (sym e)
 most_kept : (top : ℕ) (xs ys : List ℕ) → ys ≡ xs → ((k : ℕ) → get_or (0 ∷ xs) k 0 ≤ k * top) → (k : ℕ) → get_or (0 ∷ ys) k 0 ≤ k * top
 most_kept top xs ys e = subst (λ l. (k : ℕ) → get_or (0 ∷ l) k 0 ≤ k * top) (sym e)
 
-pub invariant-of-result : goal.invariant-of-result
-invariant-of-result c =
+pub invariant_of-result : goal.invariant_of-result
+invariant_of-result c =
     let top = c.args.«cap» in
     let xs = c.args.needs.now in
-    let told = c.in-ok-needs.ensures in
+    let told = c.in_ok-needs.ensures in
     let taken = sym told.answer in
-    (sizes_kept top xs _ told.made (taken_sizes top xs taken), (most_kept top xs _ told.made (needs_most top xs (taken_needs top xs taken)), (c.new_ring.ensures.held, tt)))
+    record {
+      sizes = sizes_kept top xs _ told.made (taken_sizes top xs taken);
+      most = most_kept top xs _ told.made (needs_most top xs (taken_needs top xs taken));
+      held = c.new-ring.ensures.held;
+    }
 
 pub returns : goal.returns
 returns c =
     let top = c.args.«cap» in
     let xs = c.args.needs.now in
-    let told = c.in-ok-needs.ensures in
+    let told = c.in_ok-needs.ensures in
     let taken = sym told.answer in
-    let ys = listed c.in-ok-needs.needs in
+    let ys = listed c.in_ok-needs.needs in
     let sizes = sizes_kept top xs ys told.made (taken_sizes top xs taken) in
     let most = most_kept top xs ys told.made (needs_most top xs (taken_needs top xs taken)) in
     record {
       answer = told.answer;
-      made = begun_ring top (length ys) ys refl c.new_ring.result sizes.3 c.new_ring.ensures.full ∙ ap (new_table top) told.made;
-      begun = new_ring top (length ys) ys refl c.new_ring.result sizes most c.new_ring.ensures.held c.new_ring.ensures.full;
+      made = begun_ring top (length ys) ys refl c.new-ring.result sizes.3 c.new-ring.ensures.full ∙ ap (new_table top) told.made;
+      begun = new_ring top (length ys) ys refl c.new-ring.result sizes most c.new-ring.ensures.held c.new-ring.ensures.full;
     }

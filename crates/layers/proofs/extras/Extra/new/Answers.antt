@@ -10,7 +10,7 @@ pub returns : goal.returns
 returns g c =
     let m = g.C.Contract.meaning c.args.below in
     let told = c.in-Ok.ensures in
-    let none = c.if-recalls-under-cap.ensures in
+    let none = c.if-recalls_under_cap.ensures in
     record {
       answer = grind (arith, nat_tests);
       made = (refl, told.made);

@@ -8,7 +8,7 @@ use Rattle.layers.proofs.floors.Floor.new.Goals as goal
 pub returns : goal.returns
 returns g c =
     let m = g.C.Contract.meaning c.args.below in
-    let none = c.if-recalls-under-cap.ensures in
+    let none = c.if-recalls_under_cap.ensures in
     record {
       answer = grind (arith, nat_tests);
       fault = tt;

@@ -9,7 +9,7 @@ pub returns-in-Ok : goal.returns-in-Ok
 returns-in-Ok g c =
     let m = g.C.Contract.meaning c.args.self.now.contract in
     let xs = vec_items c.args.self.now.levels in
-    let read = c.as-slice.ensures.value in
+    let read = c.as_slice.ensures.value in
     let judged = subst (λ (l : List ℕ). Judges m l c.in-Ok.verdict) read c.in-Ok.ensures.judged in
     record {
       judged = (sym (subst (λ (l : List ℕ). None ≡ verdict_refusal m l) read c.in-Ok.ensures.answer), judged);
@@ -20,7 +20,7 @@ pub returns-in-Err : goal.returns-in-Err
 returns-in-Err g c =
     let m = g.C.Contract.meaning c.args.self.now.contract in
     let xs = vec_items c.args.self.now.levels in
-    let refused = sym (subst (λ (l : List ℕ). Some (code c.in-Err.fault) ≡ verdict_refusal m l) c.as-slice.ensures.value c.in-Err.ensures.answer) in
+    let refused = sym (subst (λ (l : List ℕ). Some (code c.in-Err.fault) ≡ verdict_refusal m l) c.as_slice.ensures.value c.in-Err.ensures.answer) in
     record {
       judged = refused;
       kept = λ first r. only_too_long m xs (code c.in-Err.fault) (levels_lawful first m xs r).within_cap refused;

@@ -22,8 +22,8 @@ loop-i-preserved g c =
       (λ k h. let ne : k ≢ i = omega (arith, h) in get_or-set_other xs i k v 0 ne ∙ inv.2 k (omega (arith, h))),
     )
 
-pub invariant-of-result : goal.invariant-of-result
-invariant-of-result g c =
+pub invariant_of-result : goal.invariant_of-result
+invariant_of-result g c =
     let m = g.C.Contract.meaning c.args.contract.now in
     let s = g.met.C.Contract.limits c.args.contract.now in
     let done : c.loop-i.i ≡ memory m = omega (arith, c.memory-memory.ensures) in

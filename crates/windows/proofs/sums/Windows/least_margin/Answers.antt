@@ -10,6 +10,6 @@ loop-k-preserved c =
     let k = c.loop-k.k in
     let n = c.args.conditions.now.memory in
     let f = margin_at c.args.conditions.now.needs c.args.self.now.sums in
-    let here : _ ≡ f k = through c.excess.result c.excess.type-inv ∙ c.excess.ensures in
-    let value = through c.min-least.result c.min-least.type-inv ∙ c.min-least.ensures.value ∙ ap (int_min _) here in
+    let here : _ ≡ f k = through c.excess.result c.excess.type_inv ∙ c.excess.ensures in
+    let value = through c.min-least.result c.min-least.type_inv ∙ c.min-least.ensures.value ∙ ap (int_min _) here in
     (bound_more f n k _ _ value c.loop-k.invariant.0, attained_more f n k _ _ value c.loop-k-test.true c.loop-k.invariant.1)

@@ -14,7 +14,7 @@ loop-k-preserved c =
     let g = greatest (owed_by needs sums) k in
     let asks = get_or needs k 0 in
     let has = get_or sums (k - 1) 0 in
-    through c.max-owed.result c.max-owed.type-inv
+    through c.max-owed.result c.max-owed.type_inv
     ∙ c.max-owed.ensures.value
-    ∙ owed_signed g asks has _ _ c.loop-k.invariant (through c.excess.result c.excess.type-inv ∙ c.excess.ensures)
+    ∙ owed_signed g asks has _ _ c.loop-k.invariant (through c.excess.result c.excess.type_inv ∙ c.excess.ensures)
     ∙ ap pos (sym (greatest_next needs sums k c.loop-k.auto.k))

@@ -9,8 +9,8 @@ use Rattle.windows.proofs.sums.Windows.recalled.Goals as goal
 pub loop-i-init : goal.loop-i-init
 loop-i-init g c = (refl, refl, omega arith, (λ k (h : suc k < 1). absurd (omega arith)), (λ k. omega (arith, zeros 96 k)))
 
-pub overflow-add-recent : goal.overflow-add-recent
-overflow-add-recent g c =
+pub overflow_add-recent : goal.overflow_add-recent
+overflow_add-recent g c =
     let s = g.met.C.Contract.limits c.args.contract.now in
     omega (arith, c.loop-i.invariant.2, s.memory_most, s.cap_most, s.recall_most c.loop-i.i, c.back-recent.ensures, c.memory-i-end.ensures)
 

@@ -16,4 +16,4 @@ returns-then-length-eq0 c =
 pub returns : goal.returns
 returns c =
     let s = c.args.self.now in
-    c.saturating-sub.ensures ∙ sym (need_by (switch_need s.«cap» s.allowance) s.memory c.args.length (omega arith) (omega arith))
+    c.saturating_sub.ensures ∙ sym (need_by (switch_need s.«cap» s.allowance) s.memory c.args.length (omega arith) (omega arith))

@@ -6,21 +6,21 @@ use Rattle.kinds.specs.Tables.{table_meaning}
 use Rattle.kinds.specs.Recalls.{granted_ring}
 use Rattle.kinds.proofs.tables.calls.TableContract.grant.Goals as goal
 
-pub invariant-of-self : goal.invariant-of-self
-invariant-of-self c =
+pub invariant_of-self : goal.invariant_of-self
+invariant_of-self c =
     let s = c.args.self.now in
-    let told = c.in-ok-level.ensures in
+    let told = c.in_ok-level.ensures in
     let below = admitted_cap (table_meaning s) c.args.level (sym told.answer) in
-    (s.sizes, (s.most, (c.push.ensures.held s.«cap» s.held (omega (arith, below, told.value)), tt)))
+    record { sizes = s.sizes; most = s.most; held = c.push.ensures.held s.«cap» s.held (omega (arith, below, told.value)) }
 
 pub returns : goal.returns
 returns c =
     let s = c.args.self.now in
-    let told = c.in-ok-level.ensures in
+    let told = c.in_ok-level.ensures in
     let xs = listed s.needs in
     record {
       answer = told.answer;
       after =
-          granted_ring s.«cap» (length xs) xs refl s.ring c.push.new.self c.in-ok-level.level s.sizes.3 c.push.ensures.after
+          granted_ring s.«cap» (length xs) xs refl s.ring c.push.new.self c.in_ok-level.level s.sizes.3 c.push.ensures.after
           ∙ ap (granted (table_meaning s)) told.value;
     }
