@@ -1,5 +1,5 @@
 -- `curve` is the curve: the greatest sum of needs over all ways to split the length.
-use Rattle.std.proofs.Common.{◌≡◌, ℕ, zero, suc, ◌+◌, ◌-◌, ◌<◌, ◌≤◌, ◌⊎◌, List, [], ◌∷◌, map, length, get_or, sum, refl, ap, subst, inl, inr, zero-le, arith}
+use Rattle.std.proofs.Common.{◌≡◌, ℕ, zero, suc, ◌+◌, ◌-◌, ◌<◌, ◌≤◌, ◌⊎◌, List, [], ◌∷◌, map, length, get_or, refl, ap, subst, inl, inr, zero-le, arith}
 use native.Mathlib.Nat.{suc-sub-suc, sub-zero}
 use Rattle.std.proofs.lemmas.Bool.{cases_lt}
 use Rattle.contract.specs.Meaning.{Meaning, memory, need}

@@ -1,5 +1,5 @@
 -- A lawful list taken level by level.
-use Rattle.std.proofs.Common.{◌≡◌, ℕ, zero, suc, ◌≤◌, List, [], ◌∷◌, ◌++◌, length, get_or, take, sym, refl, ap, ◌∙◌, arith}
+use Rattle.std.proofs.Common.{◌≡◌, ℕ, zero, suc, ◌≤◌, List, [], ◌∷◌, length, get_or, take, refl, ap, ◌∙◌, arith}
 use mathlib.Core.List.{reverse_aux, reverse_aux-eq}
 use Rattle.contract.specs.Meaning.{Meaning, memory}
 use Rattle.curve.specs.Curve.{Each, best, curves, curve}

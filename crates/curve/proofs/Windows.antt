@@ -1,5 +1,5 @@
 -- Windows of past levels.
-use Rattle.std.proofs.Common.{◌≡◌, ℕ, zero, suc, ◌+◌, ◌-◌, ◌*◌, ◌≤◌, List, [], ◌∷◌, map, get_or, drop, sum, refl, ap, zero-le, suc-add, zero-add, arith}
+use Rattle.std.proofs.Common.{◌≡◌, ℕ, zero, suc, ◌+◌, ◌*◌, ◌≤◌, List, [], ◌∷◌, map, get_or, drop, sum, refl, zero-le, suc-add, zero-add, arith}
 use Rattle.contract.specs.Meaning.{Meaning, memory, need}
 use Rattle.curve.specs.Curve.{Each, needs_of}
 use Rattle.curve.specs.Lawful.{energy}

@@ -1,7 +1,7 @@
 -- The examples, by computation.
 use Rattle.std.proofs.Common.{ℕ, zero, suc, ◌*◌, ◌≤◌, refl, zero-le, arith, lit≤}
 use Rattle.contract.specs.Meaning.{New, need, back}
-use Rattle.curve.specs.Reached.{Reached, at_first, then_call, granting, looking}
+use Rattle.curve.specs.Reached.{at_first, then_call, granting, looking}
 use Rattle.curve.proofs.Curves.{curve_is}
 use Rattle.curve.specs.Worked.{hand_switch, hand_floor, hand_table, Worked}
 
