@@ -1,5 +1,5 @@
 -- Lines that a line feed ends.
-use Rattle.std.proofs.Common.{◌≡◌, ℕ, ◌+◌, ◌-◌, ◌≤◌, List, [], ◌∷◌, ◌++◌, length, get_or, take, Ok, Err, Result, sym, refl, ap, ◌∙◌, subst, arith, MatchResult}
+use Rattle.std.proofs.Common.{◌≡◌, ℕ, ◌+◌, ◌-◌, ◌≤◌, List, [], ◌∷◌, ◌++◌, length, get_or, take, Ok, Err, Result, sym, ap, ◌∙◌, subst, arith, MatchResult}
 use Rattle.std.proofs.lemmas.List.{length_push, get_or_push, take_at, take_more, take_all}
 use Rattle.contract.specs.declared.faults.Fault.{Fault}
 use Rattle.contract.specs.declared.faults.Fault.TheVariants.{Unreadable}

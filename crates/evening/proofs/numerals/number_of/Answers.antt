@@ -1,4 +1,4 @@
-use Rattle.std.proofs.Common.{◌<◌, ◌≤◌, map, length, take, ap, ◌∙◌, ⊎_elim, arith, take_all, below_more, false-eqb}
+use Rattle.std.proofs.Common.{◌≤◌, map, length, ap, ◌∙◌, ⊎_elim, arith, take_all, below_more, false-eqb}
 use lib.ListN.{length-map}
 use Rattle.std.specs.Int.Digits.{number_from_digits}
 use Rattle.evening.specs.Numerals.{digit}
