@@ -38,11 +38,11 @@ remembers_granted m past y e = ap (λ (r : List ℕ). take (memory m - 1) (y ∷
     forget (suc n) xs = ap (λ (r : List ℕ). y ∷ r) (take-take n (suc n) xs (omega arith))
 
 -- what holds of every contract that is reached
-record Stays (first : Meaning) (s : Standing) : Type 0 where
-  same_cap : s.meaning.«cap» ≡ first.«cap»
-  same_needs : s.meaning.needs ≡ first.needs
-  recalls : Remembers s.meaning s.history
-  stands : Stands s.meaning s.history
+pub record Stays (first : Meaning) (s : Standing) : Type 0 where
+  pub same_cap : s.meaning.«cap» ≡ first.«cap»
+  pub same_needs : s.meaning.needs ≡ first.needs
+  pub recalls : Remembers s.meaning s.history
+  pub stands : Stands s.meaning s.history
 
 module _ (first : Meaning) where
   call_keeps : (c : Call) (s : Standing) → Stays first s → Stays first (after c s)
@@ -56,7 +56,7 @@ module _ (first : Meaning) where
       })
   call_keeps looking s st = st
 
-  reached_stays : (s : Standing) → Reached first s → Stays first s
+  pub reached_stays : (s : Standing) → Reached first s → Stays first s
   reached_stays s (at_first new) = record { same_cap = refl; same_needs = refl; recalls = remembers_new; stands = stands_new first new }
     where
       remembers_new : Remembers first []
@@ -74,33 +74,31 @@ module _ (m : Meaning) (past : List ℕ) (s : Stands m past) where
       let kept = curve_kept m s.some_need s.met y past steps.0 steps.1 s.kept in
       lowest_le m y (λ k l. omega (arith, kept.1 k, s.recalls k l))
 
+-- a level that may be granted, and then whatever is lawful after it
+pub level_then : (m : Meaning) (past : List ℕ) → Stands m past → (y : ℕ) → y ≤ m.«cap» → lowest m ≤ y →
+    (ys : List ℕ) → (Stands (granted m y) (y ∷ past) → Stepwise (granted m y) (y ∷ past) ys) → Stepwise m past (y ∷ ys)
+level_then m past s y high low ys rest =
+    let t = stands_granted m past s y high low in
+    (high, kept_curve m s.some_need s.met (y ∷ past) t.kept, steps_same (granted m y) m refl refl (y ∷ past) ys (rest t))
+
 -- slots at the cap go on for as long as you like
 caps_go_on : (n : ℕ) (m : Meaning) (past : List ℕ) → Stands m past → Stepwise m past (replicate n m.«cap»)
 caps_go_on zero m past s = tt
 caps_go_on (suc n) m past s =
     let top = m.«cap» in
-    let t = stands_granted m past s top (omega arith) (omega arith) in (
-      omega arith,
-      kept_curve m s.some_need s.met (top ∷ past) t.kept,
-      steps_same (granted m top) m refl refl (top ∷ past) (replicate n top) (caps_go_on n (granted m top) (top ∷ past) t),
-    )
+    level_then m past s top (omega arith) (omega arith) (replicate n top) (caps_go_on n (granted m top) (top ∷ past))
 
 -- a level that is not refused, and then the cap over and over
 goes_on : (m : Meaning) (past : List ℕ) → Stands m past → (y : ℕ) → grant_refusal m y ≡ None → (n : ℕ) → Stepwise m past (y ∷ replicate n m.«cap»)
 goes_on m past s y e n =
-    let high = admitted_cap m y e in
-    let t = stands_granted m past s y high (admitted_lowest m y e) in (
-      high,
-      kept_curve m s.some_need s.met (y ∷ past) t.kept,
-      steps_same (granted m y) m refl refl (y ∷ past) (replicate n m.«cap») (caps_go_on n (granted m y) (y ∷ past) t),
-    )
+    level_then m past s y (admitted_cap m y e) (admitted_lowest m y e) (replicate n m.«cap») (caps_go_on n (granted m y) (y ∷ past))
 
 module _ (first : Meaning) (s : Standing) (st : Stays first s) where
   -- lists that are lawful on the new contract are lawful by the present cap and needs, and the other way round
-  here : (ys : List ℕ) → Lawful first s.history ys → Stepwise s.meaning s.history ys
+  pub here : (ys : List ℕ) → Lawful first s.history ys → Stepwise s.meaning s.history ys
   here ys lawful = steps_same first s.meaning (sym st.same_cap) (sym st.same_needs) s.history ys (lawful_steps first s.history ys lawful)
 
-  there : (past ys : List ℕ) → Stepwise s.meaning past ys → Lawful first past ys
+  pub there : (past ys : List ℕ) → Stepwise s.meaning past ys → Lawful first past ys
   there past ys steps = steps_lawful first past ys (steps_same s.meaning first st.same_cap st.same_needs past ys steps)
 
   begins : (y : ℕ) (ys : List ℕ) → Lawful first s.history (y ∷ ys) → grant_refusal s.meaning y ≡ None
@@ -122,6 +120,10 @@ module _ (first : Meaning) (s : Standing) (st : Stays first s) where
     (λ h. let l = extends y (admitted s.meaning y h.0 (omega (arith, h.1, st.same_cap))) 1 (omega arith) in (l.0, l.2)),
   )
 
+  -- the history, level by level from the first on
+  history_steps : Stepwise s.meaning [] (reverse s.history)
+  history_steps = steps_past s.meaning st.stands.some_need st.stands.met s.history [] st.stands.kept tt
+
   recalled : s.meaning.recall ≡ take (memory first - 1) (s.history ++ replicate (memory first - 1) first.«cap»)
   recalled =
       let by : List ℕ → ℕ → List ℕ = λ needs top. take (length needs - 1) (s.history ++ replicate (length needs - 1) top) in
@@ -141,14 +143,16 @@ module _ (first : Meaning) (s : Standing) (st : Stays first s) where
     curve_is = curve_is first new.limits.memory_least;
     same_cap = st.same_cap;
     same_needs = st.same_needs;
-    history_lawful =
-        there [] (reverse s.history)
-        (steps_past s.meaning st.stands.some_need st.stands.met s.history [] st.stands.kept tt);
+    history_lawful = there [] (reverse s.history) history_steps;
     recalls = recalled;
     allowed = allowed;
     told = told;
     cap_granted = admitted s.meaning first.«cap» (omega (arith, st.same_cap)) (omega (arith, st.same_cap));
   }
+
+-- the history is lawful by the present cap and needs too
+pub lawful_now : (first : Meaning) (s : Standing) → Reached first s → Lawful s.meaning [] (reverse s.history)
+lawful_now first s r = steps_lawful s.meaning [] (reverse s.history) (history_steps first s (reached_stays first s r))
 
 pub promise : DispatchPromise
 promise first s r = dispatched first s (reached_stays first s r) (reached_new first s r)

@@ -98,7 +98,7 @@ module _ (m : Meaning) (some_need : 1 ≤ memory m) (met : Met m.«cap» m.needs
       let h = kept_way m met w.0 past kept w.1.lengths in
       subst (λ (n : ℕ). curve m L ≤ energy m.«cap» past n) w.1.fills (omega (arith, h, w.2))
 
-  need_curve : (k : ℕ) → get_or m.needs k 0 ≤ curve m (suc k)
+  pub need_curve : (k : ℕ) → get_or m.needs k 0 ≤ curve m (suc k)
   need_curve k = ⊎_elim within beyond (cases_lt k (memory m))
     where
       within : k < memory m → get_or m.needs k 0 ≤ curve m (suc k)

@@ -4,9 +4,10 @@ use lib.Seq.{take-append_seam, drop-append_seam}
 use Rattle.std.proofs.lemmas.List.{append_assoc, set_at, drop_more}
 use Rattle.std.proofs.lemmas.List.Sums.{sum_by_push}
 use Rattle.std.proofs.lemmas.Bool.Decides.{nat_tests}
-use Rattle.contract.specs.declared.faults.Code.{Code}
+use Rattle.windows.specs.declared.refusals.ListFault.{ListFault}
+use Rattle.windows.specs.declared.refusals.ListFault.TheVariants.{TooFar}
 use Rattle.contract.specs.Meaning.{Meaning, lowest, granted}
-use Rattle.contract.specs.Faults.{list_fault, unless_refused}
+use Rattle.windows.specs.Refusals.{unless_fault}
 use Rattle.windows.specs.Forecasts.{forecast_levels, forecast_energy, forecast_refusal, list_after}
 
 -- the contract after n of its lowest levels
@@ -60,17 +61,17 @@ module _ (m : Meaning) where
 pub forecast_taken : (n places : ℕ) → n ≤ 192 → n ≤ places → forecast_refusal n places ≡ None
 forecast_taken n places few fits = grind (arith, nat_tests)
 
-pub forecast_refused : (n places : ℕ) → (192 < n) ⊎ ((n ≤ 192) × (places < n)) → forecast_refusal n places ≡ Some (list_fault 14)
+pub forecast_refused : (n places : ℕ) → (192 < n) ⊎ ((n ≤ 192) × (places < n)) → forecast_refusal n places ≡ Some TooFar
 forecast_refused n places (inl far) = grind (arith, nat_tests)
 forecast_refused n places (inr short) = grind (arith, nat_tests)
 
 -- a refused forecast leaves the list as it was
-pub list_left : (m : Meaning) (n : ℕ) (xs : List ℕ) (c : Code) → forecast_refusal n (length xs) ≡ Some c → list_after m n xs ≡ xs
-list_left m n xs c e = ap (λ (o : Option Code). unless_refused o xs (forecast_levels m n ++ drop n xs)) e
+pub list_left : (m : Meaning) (n : ℕ) (xs : List ℕ) (c : ListFault) → forecast_refusal n (length xs) ≡ Some c → list_after m n xs ≡ xs
+list_left m n xs c e = ap (λ (o : Option ListFault). unless_fault o xs (forecast_levels m n ++ drop n xs)) e
 
 module _ (m : Meaning) (n : ℕ) (xs : List ℕ) (few : n ≤ 192) (fits : n ≤ length xs) where
   pub list_is : list_after m n xs ≡ forecast_levels m n ++ drop n xs
-  list_is = ap (λ (o : Option Code). unless_refused o xs (forecast_levels m n ++ drop n xs)) (forecast_taken n (length xs) few fits)
+  list_is = ap (λ (o : Option ListFault). unless_fault o xs (forecast_levels m n ++ drop n xs)) (forecast_taken n (length xs) few fits)
 
   pub written_is : take n (list_after m n xs) ≡ forecast_levels m n
   written_is = ap (take n) list_is ∙ front_is m n (drop n xs)

@@ -1,3 +1,4 @@
+pub mod Scans
 pub mod Reading
 pub mod Sliding
 pub mod Orders

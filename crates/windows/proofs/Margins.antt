@@ -4,9 +4,10 @@ use Rattle.std.specs.Int.{int_min, int_max}
 use Rattle.std.proofs.lemmas.Int.{ints, clamps}
 use Rattle.std.proofs.lemmas.Bool.{cases_lt, ltb-true, ltb-false, le-ltb}
 use Rattle.contract.specs.Meaning.{Meaning, Limits, memory, need}
-use Rattle.contract.specs.declared.faults.Code.{Code}
-use Rattle.contract.specs.Faults.{contract_fault, list_fault, refuse_if, or_else}
-use Rattle.contract.proofs.Scans.{each_passes}
+use Rattle.windows.specs.declared.refusals.ListFault.{ListFault}
+use Rattle.windows.specs.declared.refusals.ListFault.TheVariants.{AboveCap, TooLong}
+use Rattle.windows.specs.Refusals.{fault_if, or_fault}
+use Rattle.windows.proofs.Scans.{each_below}
 use Rattle.curve.specs.Curve.{Each}
 use Rattle.curve.specs.Lawful.{energy, Lawful}
 use Rattle.windows.proofs.Records.{holds_lawful, lawful_holds}
@@ -113,7 +114,7 @@ kept_lawful m limits xs each (Some t) tells = (
 
 -- no level of the record is above the cap
 pub within_cap : (top : ℕ) (xs : List ℕ) → first_above top 1 xs ≡ None → (j : ℕ) → j < length xs → get_or xs j 0 ≤ top
-within_cap top xs none j h = ltb-false top (get_or xs j 0) (each_passes (λ i x. ltb top x) 7 1 xs none j h)
+within_cap top xs none j h = ltb-false top (get_or xs j 0) (each_below top 1 xs none j h)
 
 pub each_within : (top : ℕ) (xs : List ℕ) → ((j : ℕ) → j < length xs → get_or xs j 0 ≤ top) → Each (λ y. y ≤ top) xs
 each_within top [] within = tt
@@ -123,13 +124,13 @@ each_within top (x ∷ xs) within = (within 0 (omega arith), each_within top xs 
 none_above : (top i : ℕ) (xs : List ℕ) → Each (λ y. y ≤ top) xs → first_above top i xs ≡ None
 none_above top i [] each = refl
 none_above top i (x ∷ xs) each =
-    ap (λ t. refuse_if t (contract_fault 7 i) (first_above top (i + 1) xs)) (le-ltb top x each.0) ∙ none_above top (i + 1) xs each.1
+    ap (λ t. fault_if t (AboveCap i) (first_above top (i + 1) xs)) (le-ltb top x each.0) ∙ none_above top (i + 1) xs each.1
 
-pub only_too_long : (m : Meaning) (xs : List ℕ) (c : Code) → Each (λ y. y ≤ m.«cap») xs → verdict_refusal m xs ≡ Some c → (65535 < length xs) × (c ≡ list_fault 15)
+pub only_too_long : (m : Meaning) (xs : List ℕ) (c : ListFault) → Each (λ y. y ≤ m.«cap») xs → verdict_refusal m xs ≡ Some c → (65535 < length xs) × (c ≡ TooLong)
 only_too_long m xs c each e =
-    by_length (ltb 65535 (length xs)) refl (sym (ap (λ o. or_else o (refuse_if (ltb 65535 (length xs)) (list_fault 15) None)) (none_above m.«cap» 1 xs each)) ∙ e)
+    by_length (ltb 65535 (length xs)) refl (sym (ap (λ o. or_fault o (fault_if (ltb 65535 (length xs)) TooLong None)) (none_above m.«cap» 1 xs each)) ∙ e)
   where
-    by_length : (b : Bool) → ltb 65535 (length xs) ≡ b → refuse_if b (list_fault 15) None ≡ Some c → (65535 < length xs) × (c ≡ list_fault 15)
+    by_length : (b : Bool) → ltb 65535 (length xs) ≡ b → fault_if b TooLong None ≡ Some c → (65535 < length xs) × (c ≡ TooLong)
     by_length true t d = (ltb-true 65535 (length xs) t, cc)
     by_length false t d = let z : ◌≡◌ {A = ℕ} 0 1 = cc in absurd (omega arith)
 

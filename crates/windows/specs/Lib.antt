@@ -1,3 +1,4 @@
+pub mod Refusals
 pub mod Sums
 pub mod Forecasts
 pub mod Planned

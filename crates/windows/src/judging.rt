@@ -1,6 +1,6 @@
 // The verdict on a record of levels.
 ghost use Rattle.std.specs.Prelude.{◌≡◌, ◌<◌, IfOk};
-ghost use Rattle.contract.specs.Faults.{refusal};
+ghost use Rattle.windows.specs.Refusals.{fault_of};
 ghost use Rattle.windows.specs.Judging.{Chosen, Decided};
 ghost use Rattle.windows.specs.Sums.{Low, margin_at};
 ghost use Rattle.windows.specs.Verdicts.{first_above, Judges, verdict_refusal};
@@ -8,17 +8,18 @@ ghost use Rattle.windows.specs.declared.verdicts.Verdict.{Verdict};
 
 use crate::LEVELS_MOST;
 use crate::conditions::Conditions;
+use crate::refusals::ListFault;
 use crate::sums::Windows;
 use crate::verdicts::{Tightest, Verdict};
-use contract::{Contract, Fault};
+use contract::Contract;
 
 // Refuses the first level above the cap.
-fn check_levels(cap: u32, record: &[u32]) -> Result<(), Fault>
-    ensures { refusal result ≡ first_above «cap» 1 «record».now }
+fn check_levels(cap: u32, record: &[u32]) -> Result<(), ListFault>
+    ensures { fault_of result ≡ first_above «cap» 1 «record».now }
 {
     for (i, level) in record.iter().enumerate() {
         if *level > cap {
-            return Err(Fault::RecordAboveCap(i as u64 + 1));
+            return Err(ListFault::AboveCap(i as u64 + 1));
         }
     }
     Ok(())
@@ -61,15 +62,15 @@ fn decided(tightest: Option<Tightest>) -> Verdict
 }
 
 // Judges levels that were granted one after the other, begun on a new contract with this one's cap, memory and needs.
-pub fn verdict<C: Contract>(contract: &C, record: &[u32]) -> Result<Verdict, Fault>
-    ensures answer { refusal result ≡ verdict_refusal (C.meaning contract.now) «record».now }
+pub fn verdict<C: Contract>(contract: &C, record: &[u32]) -> Result<Verdict, ListFault>
+    ensures answer { fault_of result ≡ verdict_refusal (C.meaning contract.now) «record».now }
     ensures judged { IfOk result (Judges (C.meaning contract.now) «record».now) }
     ensures only { IfOk result (λ v. (w : Verdict) → Judges (C.meaning contract.now) «record».now w → v ≡ w) }
 {
     let conditions = Conditions::of(contract);
     check_levels(conditions.cap, record)?;
     if record.len() > LEVELS_MOST {
-        return Err(Fault::TooLong);
+        return Err(ListFault::TooLong);
     }
     let mut windows = Windows::at_cap(conditions.cap);
     let mut tightest = None;

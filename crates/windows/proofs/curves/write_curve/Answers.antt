@@ -4,7 +4,7 @@ use Rattle.std.proofs.lemmas.Bool.Decides.{nat_tests}
 use Rattle.contract.specs.Meaning.{memory}
 use Rattle.curve.specs.Curve.{IsCurve}
 use Rattle.curve.proofs.Curves.{curve_is}
-use Rattle.contract.proofs.Copied.{copied_all}
+use Rattle.kinds.proofs.Copied.{copied_all}
 use Rattle.windows.proofs.Bests.{written_low, written_more}
 use Rattle.windows.proofs.curves.write_curve.Goals as goal
 

@@ -1,6 +1,6 @@
 use Rattle.std.proofs.Common.{◌≡◌, ◌≤◌, ◌++◌, length, take, drop, set, sym, ap, ◌∙◌, subst, arith}
 use Rattle.contract.specs.Meaning.{lowest}
-use Rattle.contract.specs.Faults.{list_fault}
+use Rattle.windows.specs.declared.refusals.ListFault.TheVariants.{TooFar}
 use Rattle.windows.specs.Forecasts.{forecast_levels, forecast_energy, list_after}
 use Rattle.windows.proofs.Ahead.{ahead, ahead_more, energy_more, write_more, written_is, list_is, list_left, forecast_taken, forecast_refused}
 use Rattle.windows.proofs.Foreseen.{contract_promise, foreseen}
@@ -14,7 +14,7 @@ returns-then-slots-gt-SLOTS_MOST g c =
     let n = c.args.slots in
     let list = c.args.list.now in
     let refused = forecast_refused n (length list) c.then-slots-gt-SLOTS_MOST.either in
-    record { answer = sym refused; energy = tt; after = sym (list_left m n list (list_fault 14) refused); foreseen = tt; promise = contract_promise }
+    record { answer = sym refused; energy = tt; after = sym (list_left m n list TooFar refused); foreseen = tt; promise = contract_promise }
 
 pub loop-i-preserved : goal.loop-i-preserved
 loop-i-preserved g c =

@@ -1,7 +1,8 @@
 use Rattle.std.proofs.Common.{◌≡◌, suc, ◌+◌, ◌*◌, ◌<◌, ltb, length, get_or, None, sym, refl, ap, ◌∙◌, subst, arith}
 use Rattle.std.proofs.lemmas.Bool.{le-ltb}
 use Rattle.contract.specs.Meaning.{memory}
-use Rattle.contract.specs.Faults.{refuse_if, list_fault, or_else}
+use Rattle.windows.specs.Refusals.{fault_if, or_fault}
+use Rattle.windows.specs.declared.refusals.ListFault.TheVariants.{TooLong}
 use Rattle.curve.proofs.Windows.{energy_past}
 use Rattle.windows.specs.Sums.{margin_at, Slid}
 use Rattle.windows.specs.Verdicts.{first_above, Tells}
@@ -51,7 +52,7 @@ returns g c =
     let none : None ≡ first_above m.«cap» 1 xs = c.in_ok-check_levels.ensures ∙ ap (λ t. first_above t 1 xs) c.of-conditions.ensures.0 in
     let judged = judges m s xs (each_within m.«cap» xs (within_cap m.«cap» xs (sym none))) c.loop-i.tightest c.decided.result (subst (λ n. Tells m xs n c.loop-i.tightest) done c.loop-i.invariant.0) c.decided.ensures in
     record {
-      answer = sym (ap (λ t. refuse_if t (list_fault 15) None) (le-ltb 65535 (length xs) (omega arith))) ∙ ap (λ t. or_else t (refuse_if (ltb 65535 (length xs)) (list_fault 15) None)) none;
+      answer = sym (ap (λ t. fault_if t TooLong None) (le-ltb 65535 (length xs) (omega arith))) ∙ ap (λ t. or_fault t (fault_if (ltb 65535 (length xs)) TooLong None)) none;
       judged = judged;
       only = λ w also. one_verdict m xs c.decided.result w judged also;
     }

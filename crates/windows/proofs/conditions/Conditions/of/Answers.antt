@@ -1,7 +1,7 @@
 use Rattle.std.proofs.Common.{◌≡◌, ◌<◌, ◌≤◌, ◌≢◌, refl, ◌∙◌, arith}
 use Rattle.std.proofs.lemmas.List.{length-set, get_or-set_other}
 use Rattle.contract.specs.Meaning.{memory}
-use Rattle.contract.proofs.Copied.{copied_more}
+use Rattle.kinds.proofs.Copied.{copied_more}
 use Rattle.windows.proofs.Reading.{place_next, read_limit, zeros}
 use Rattle.windows.proofs.conditions.Conditions.of.Goals as goal
 
@@ -27,16 +27,10 @@ invariant_of-result g c =
     let m = g.C.Contract.meaning c.args.contract.now in
     let s = g.met.C.Contract.limits c.args.contract.now in
     let done : c.loop-i.i ≡ memory m = omega (arith, c.memory-memory.ensures) in
-    let inv = c.loop-i.invariant in (
-      omega (arith, s.cap_most, c.«cap».ensures),
-      (
-        omega (arith, s.memory_least, c.memory-memory.ensures),
-        (
-          omega (arith, s.memory_most, c.memory-memory.ensures),
-          (
-            read_limit m s c.loop-i.needs (λ k (h : k < memory m). inv.1 k (omega arith)) (λ k (h : memory m ≤ k). inv.2 k (omega arith)),
-            tt,
-          ),
-        ),
-      ),
-    )
+    let inv = c.loop-i.invariant in
+    record {
+      capped = omega (arith, s.cap_most, c.«cap».ensures);
+      some = omega (arith, s.memory_least, c.memory-memory.ensures);
+      few = omega (arith, s.memory_most, c.memory-memory.ensures);
+      most = read_limit m s c.loop-i.needs (λ k (h : k < memory m). inv.1 k (omega arith)) (λ k (h : memory m ≤ k). inv.2 k (omega arith));
+    }

@@ -1,5 +1,5 @@
 use Rattle.std.proofs.Common.{◌≡◌, ℕ, ◌≤◌, length, get_or}
-use Rattle.contract.proofs.Copied.{Copied}
+use Rattle.kinds.proofs.Copied.{Copied}
 use Rattle.windows.proofs.conditions.Conditions.of.Given as goal
 
 -- the needs below i are read, and the others 0
