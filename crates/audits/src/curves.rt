@@ -3,7 +3,7 @@ use contract::{Contract, Fault};
 use kinds::{Switch, Table};
 use layers::{Extra, Floor};
 use std::test::Fail;
-use windows::write_curve;
+use windows::{ListFault, write_curve};
 
 fn floor() -> Result<Floor<Switch>, Fault> {
     Ok(Floor::new(Switch::new(100, 4, 80)?, 20)?)
@@ -66,7 +66,7 @@ fn curves_of_the_shortest_and_the_longest_memory(rt: HostRuntime) -> Result<(), 
 fn curve_of_65_535_lengths_is_the_longest(rt: HostRuntime) -> Result<(), Fail> {
     let table = Table::new(20_000, &[20_000])?;
     let mut list = [7; 65_536];
-    assert_eq!(rt; write_curve(&table, &mut list), Err(Fault::TooLong));
+    assert_eq!(rt; write_curve(&table, &mut list), Err(ListFault::TooLong));
     assert_eq!(rt; (list[0], list[1], list[65_535]), (7, 7, 7));
     let mut list = [7; 65_535];
     assert_eq!(rt; write_curve(&table, &mut list), Ok(()));

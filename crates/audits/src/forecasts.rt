@@ -3,7 +3,7 @@ use contract::{Contract, Fault};
 use kinds::{Switch, Table};
 use layers::{Extra, Floor};
 use std::test::Fail;
-use windows::forecast;
+use windows::{ListFault, forecast};
 
 // A switch that still has 60 of a grant of 40 to make up.
 fn owing() -> Result<Switch, Fault> {
@@ -37,10 +37,10 @@ fn switch_is_foreseen_new_and_owing(rt: HostRuntime) -> Result<(), Fail> {
 fn only_the_places_asked_for_are_written(rt: HostRuntime) -> Result<(), Fail> {
     let switch = owing()?;
     assert_eq!(rt; forecast(&switch, 0, &mut []), Ok(0));
-    assert_eq!(rt; forecast(&switch, 1, &mut []), Err(Fault::TooFar));
+    assert_eq!(rt; forecast(&switch, 1, &mut []), Err(ListFault::TooFar));
     let mut list = [7, 8, 9];
     assert_eq!(rt; forecast(&switch, 0, &mut list), Ok(0));
-    assert_eq!(rt; forecast(&switch, 4, &mut list), Err(Fault::TooFar));
+    assert_eq!(rt; forecast(&switch, 4, &mut list), Err(ListFault::TooFar));
     assert_eq!(rt; list, [7, 8, 9]);
     assert_eq!(rt; forecast(&switch, 2, &mut list), Ok(160));
     assert_eq!(rt; list, [60, 100, 9]);
@@ -54,12 +54,15 @@ fn only_the_places_asked_for_are_written(rt: HostRuntime) -> Result<(), Fail> {
 fn forecast_goes_192_slots_far(rt: HostRuntime) -> Result<(), Fail> {
     let switch = owing()?;
     let mut list = [7; 200];
-    assert_eq!(rt; forecast(&switch, 193, &mut list), Err(Fault::TooFar));
+    assert_eq!(rt; forecast(&switch, 193, &mut list), Err(ListFault::TooFar));
     assert_eq!(rt;
         forecast(&switch, 4_294_967_298, &mut list),
-        Err(Fault::TooFar)
+        Err(ListFault::TooFar)
     );
-    assert_eq!(rt; forecast(&switch, u64::MAX, &mut list), Err(Fault::TooFar));
+    assert_eq!(rt;
+        forecast(&switch, u64::MAX, &mut list),
+        Err(ListFault::TooFar)
+    );
     assert_eq!(rt; list, [7; 200]);
     assert_eq!(rt; forecast(&switch, 192, &mut list), Ok(14_400));
     assert_eq!(rt; (list[0], list[191], list[192], list[199]), (60, 40, 7, 7));

@@ -5,9 +5,9 @@ use layers::Floor;
 use std::alloc::Global;
 use std::process::Abort;
 use std::test::Fail;
-use windows::{Tightest, Verdict, verdict};
+use windows::{ListFault, Tightest, Verdict, verdict};
 
-fn kept(margin: i32, end: u32, length: u32) -> Result<Verdict, Fault> {
+fn kept(margin: i32, end: u32, length: u32) -> Result<Verdict, ListFault> {
     Ok(Verdict::Kept(Some(Tightest {
         margin,
         end,
@@ -15,7 +15,7 @@ fn kept(margin: i32, end: u32, length: u32) -> Result<Verdict, Fault> {
     })))
 }
 
-fn broken(margin: i32, end: u32, length: u32) -> Result<Verdict, Fault> {
+fn broken(margin: i32, end: u32, length: u32) -> Result<Verdict, ListFault> {
     Ok(Verdict::Broken(Tightest {
         margin,
         end,
@@ -110,13 +110,13 @@ fn first_level_above_the_cap_is_told(rt: HostRuntime) -> Result<(), Fail> {
     assert_eq!(rt; verdict(&switch, &[100, 100]), kept(100, 1, 1));
     assert_eq!(rt;
         verdict(&switch, &[100, 101, 102]),
-        Err(Fault::RecordAboveCap(2))
+        Err(ListFault::AboveCap(2))
     );
     assert_eq!(rt;
         verdict(&switch, &[0, 0, u32::MAX]),
-        Err(Fault::RecordAboveCap(3))
+        Err(ListFault::AboveCap(3))
     );
-    assert_eq!(rt; verdict(&switch, &[101]), Err(Fault::RecordAboveCap(1)));
+    assert_eq!(rt; verdict(&switch, &[101]), Err(ListFault::AboveCap(1)));
     Ok(())
 }
 
@@ -126,20 +126,20 @@ fn record_of_65_535_levels_is_the_longest(rt: HostRuntime) -> Result<(), Fail> {
     let mut record = [100; 65_537];
     record[65_534] = 40;
     assert_eq!(rt; verdict(&switch, &record[..65_535]), kept(40, 65_535, 1));
-    assert_eq!(rt; verdict(&switch, &record[..65_536]), Err(Fault::TooLong));
-    assert_eq!(rt; verdict(&switch, &record), Err(Fault::TooLong));
-    record[65_536] = 101;
     assert_eq!(rt;
-        verdict(&switch, &record),
-        Err(Fault::RecordAboveCap(65_537))
+        verdict(&switch, &record[..65_536]),
+        Err(ListFault::TooLong)
     );
+    assert_eq!(rt; verdict(&switch, &record), Err(ListFault::TooLong));
+    record[65_536] = 101;
+    assert_eq!(rt; verdict(&switch, &record), Err(ListFault::AboveCap(65_537)));
     Ok(())
 }
 
 fn said(
     rt: &impl Abort,
     heap: Global,
-    verdict: Result<Verdict, Fault>,
+    verdict: Result<Verdict, ListFault>,
     text: &str,
 ) -> Result<(), Fail> {
     let verdict = verdict?;

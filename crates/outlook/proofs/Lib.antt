@@ -1,3 +1,1 @@
-pub mod Tens
-pub mod Ended
 pub mod Carried

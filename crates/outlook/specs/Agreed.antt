@@ -5,7 +5,7 @@ use Rattle.contract.specs.Faults.{or_else}
 use Rattle.contract.specs.Meaning.{Meaning}
 use Rattle.kinds.specs.Kinds.{new_switch, switch_refusal}
 use Rattle.layers.specs.Layers.{floored, floor_refusal}
-use Rattle.outlook.specs.declared.terms.Terms.{Terms}
+use Rattle.evening.specs.declared.terms.Terms.{Terms}
 
 -- a floor over a switch, both new
 abbrev pub agreed : Terms → Meaning

@@ -1,24 +1,13 @@
 -- What comes of a line that asks for a level, and of a whole evening.
 use Rattle.std.specs.Prelude.{◌≡◌, ℕ, ◌+◌, ◌-◌, ◌^◌, ◌<◌, min, ◌⊎◌, List, [], ◌∷◌, ◌++◌, reverse, length, Some, None}
-use Rattle.contract.specs.declared.faults.Code.{Code}
-use Rattle.contract.specs.Faults.{code, text_fault, list_fault, grant_refusal}
+use Rattle.contract.specs.Faults.{code}
 use Rattle.contract.specs.Meaning.{Meaning, granted}
 use Rattle.curve.specs.Reached.{standing, Reached}
 use Rattle.windows.specs.Verdicts.{IsKept, verdict_refusal, Judges as JudgesRecord}
-use Rattle.outlook.specs.Numerals.{AsksFor}
+use Rattle.windows.specs.declared.refusals.ListFault.TheVariants.{TooLong}
+use Rattle.evening.specs.Evenings.{GrantedLine, RefusedLine}
 use Rattle.outlook.specs.declared.replies.Reply.{Reply}
-use Rattle.outlook.specs.declared.replies.Reply.TheVariants.{Begins, Granted, Refused, Foresees, Ahead, Ends, Judges, Unjudged}
-
--- the level is granted
-pub record GrantedLine (m : Meaning) (line : List ℕ) (level : ℕ) : Type 0 where
-  pub asks : AsksFor line level
-  pub taken : grant_refusal m level ≡ None
-
--- the line asks for a level that the contract refuses, or for none at all
-abbrev pub RefusedLine : Meaning → List ℕ → Code → Type 0
-RefusedLine m line c =
-    ((level : ℕ) × AsksFor line level × (grant_refusal m level ≡ Some c))
-    ⊎ (((level : ℕ) → AsksFor line level → ⊥) × (c ≡ text_fault 1))
+use Rattle.outlook.specs.declared.replies.Reply.TheVariants.{Granted, Refused, Foresees, Ahead, Ends, Judges, Unjudged}
 
 -- what an evening holds between lines: the contract's meaning, the levels granted, oldest first, and their energy
 pub record Books : Type 0 where
@@ -47,7 +36,6 @@ Replies b a count line (Refused at fault) =
     × (a.levels ≡ b.levels)
     × (a.energy ≡ b.energy)
     × (at ≡ count)
-Replies b a count line (Begins letter memory) = ⊥
 Replies b a count line (Foresees slots energy) = ⊥
 Replies b a count line (Ahead slot level) = ⊥
 Replies b a count line (Ends slots energy lowest) = ⊥
@@ -62,8 +50,7 @@ KeptBy first b = Reached first (standing b.meaning (reverse b.levels))
 -- what is said of the levels granted: the verdict, or why there is none
 abbrev pub JudgedReply : Meaning → List ℕ → Reply → Type 0
 JudgedReply m levels (Judges v) = (verdict_refusal m levels ≡ None) × JudgesRecord m levels v
-JudgedReply m levels (Unjudged fault) = verdict_refusal m levels ≡ Some (code fault)
-JudgedReply m levels (Begins letter memory) = ⊥
+JudgedReply m levels (Unjudged fault) = verdict_refusal m levels ≡ Some fault
 JudgedReply m levels (Granted slot level) = ⊥
 JudgedReply m levels (Refused at fault) = ⊥
 JudgedReply m levels (Foresees slots energy) = ⊥
@@ -73,8 +60,7 @@ JudgedReply m levels (Ends slots energy lowest) = ⊥
 -- the levels are called kept, or there are more of them than a verdict takes
 abbrev pub KeptReply : List ℕ → Reply → Type 0
 KeptReply levels (Judges v) = IsKept v
-KeptReply levels (Unjudged fault) = (65535 < length levels) × (code fault ≡ list_fault 15)
-KeptReply levels (Begins letter memory) = ⊥
+KeptReply levels (Unjudged fault) = (65535 < length levels) × (fault ≡ TooLong)
 KeptReply levels (Granted slot level) = ⊥
 KeptReply levels (Refused at fault) = ⊥
 KeptReply levels (Foresees slots energy) = ⊥

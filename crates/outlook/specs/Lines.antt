@@ -3,12 +3,12 @@ use Rattle.std.specs.Prelude.{ℕ, List, ◌++◌, codes, decimal}
 use Rattle.std.proofs.Math.Utf8.{encode}
 use Rattle.contract.specs.Faults.{code}
 use Rattle.contract.specs.Shown.{code_text}
+use Rattle.windows.specs.Refusals.{row, row_text}
 use Rattle.windows.specs.Shown.{verdict_text}
 use Rattle.outlook.specs.declared.replies.Reply.{Reply}
-use Rattle.outlook.specs.declared.replies.Reply.TheVariants.{Begins, Granted, Refused, Foresees, Ahead, Ends, Judges, Unjudged}
+use Rattle.outlook.specs.declared.replies.Reply.TheVariants.{Granted, Refused, Foresees, Ahead, Ends, Judges, Unjudged}
 
 abbrev pub reply_text : Reply → List ℕ
-reply_text (Begins letter memory) = codes "contract " ++ (encode letter ++ (codes " memory " ++ decimal memory))
 reply_text (Granted slot level) = codes "slot " ++ (decimal slot ++ (codes " level " ++ decimal level))
 reply_text (Refused line fault) = codes "fault line " ++ (decimal line ++ (codes " " ++ code_text (code fault)))
 reply_text (Foresees slots energy) = codes "forecast " ++ (decimal slots ++ (codes " energy " ++ decimal energy))
@@ -16,4 +16,4 @@ reply_text (Ahead slot level) = codes "ahead " ++ (decimal slot ++ (codes " leve
 reply_text (Ends slots energy lowest) =
     codes "end slots " ++ (decimal slots ++ (codes " energy " ++ (decimal energy ++ (codes " lowest " ++ decimal lowest))))
 reply_text (Judges verdict) = codes "verdict " ++ verdict_text verdict
-reply_text (Unjudged fault) = codes "verdict none " ++ code_text (code fault)
+reply_text (Unjudged fault) = codes "verdict none " ++ row_text (row fault)

@@ -1,18 +1,20 @@
 // An evening on one contract.
 ghost use Rattle.std.specs.Prelude.{◌≡◌, ◌≤◌, [], reverse, length, IfOk, vec_len, vec_capacity, MatchResult, OnErr, OnOk};
-ghost use Rattle.contract.specs.Faults.{code, refusal};
+ghost use Rattle.contract.specs.Faults.{code};
+ghost use Rattle.evening.specs.Evenings.{GrantedLine, RefusedLine};
+ghost use Rattle.windows.specs.Refusals.{fault_of};
 ghost use Rattle.contract.specs.Meaning.{Meaning, New, lowest, granted};
 ghost use Rattle.windows.specs.Forecasts.{forecast_energy, forecast_refusal, list_after};
 ghost use Rattle.windows.specs.Planned.{Worst};
-ghost use Rattle.outlook.specs.Evenings.{GrantedLine, JudgedReply, KeptBy, KeptReply, RefusedLine, Replies, books};
+ghost use Rattle.outlook.specs.Evenings.{JudgedReply, KeptBy, KeptReply, Replies, books};
 ghost use Rattle.outlook.specs.declared.replies.Reply.TheVariants.{Ends, Foresees};
 
-use crate::numerals::level_of;
 use crate::replies::Reply;
 use contract::{Contract, Fault};
 use curve::dispatch;
+use evening::level_of;
 use std::alloc::{AllocError, Global};
-use windows::{forecast, verdict};
+use windows::{ListFault, forecast, verdict};
 
 #[derive(Drop)]
 pub struct Evening<C> {
@@ -65,8 +67,8 @@ impl<C: Contract> Evening<C> {
     }
 
     // Forecasts as many slots as `list` has places, and writes their levels there.
-    pub fn foresee(&self, list: &mut [u32]) -> Result<Reply, Fault>
-        ensures answer { refusal result ≡ forecast_refusal (length list.old) (length list.old) }
+    pub fn foresee(&self, list: &mut [u32]) -> Result<Reply, ListFault>
+        ensures answer { fault_of result ≡ forecast_refusal (length list.old) (length list.old) }
         ensures reply { IfOk result (λ a. a ≡ Foresees (length list.old) (forecast_energy (C.meaning self.now.contract) (length list.old))) }
         ensures after { list.new ≡ list_after (C.meaning self.now.contract) (length list.old) list.old }
         ensures worst { OnOk result ((first : Meaning) → KeptBy first (books (C.meaning self.now.contract) self.now.levels.items self.now.energy) → Worst first (reverse self.now.levels.items) (length list.old) (forecast_energy (C.meaning self.now.contract) (length list.old)) list.new) }

@@ -1,12 +1,8 @@
-// A dispatcher's evening on one contract: lines come in that ask for levels, and each is answered.
+// A dispatcher's evening that also tells what can still come, and whether the contract was kept.
 #![tactic(auto)]
 
 mod evenings;
-mod numerals;
 mod replies;
-mod terms;
 
 pub use evenings::Evening;
-pub use numerals::{level_of, number_of};
 pub use replies::Reply;
-pub use terms::{Terms, opening};

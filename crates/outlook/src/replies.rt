@@ -4,12 +4,10 @@ ghost use Rattle.outlook.specs.Lines.{reply_text};
 
 use contract::Fault;
 use std::fmt;
-use windows::Verdict;
+use windows::{ListFault, Verdict};
 
 #[derive(Clone, Copy)]
 pub enum Reply {
-    // The letter of the kind named, and the memory.
-    Begins(char, u32),
     // The slot, counted from 1, and its level.
     Granted(u64, u64),
     // The line, counted from 1, and why nothing came of it.
@@ -23,7 +21,7 @@ pub enum Reply {
     // Whether the levels granted kept the contract.
     Judges(Verdict),
     // Why they are not judged.
-    Unjudged(Fault),
+    Unjudged(ListFault),
 }
 
 impl fmt::Display for Reply {
@@ -31,7 +29,6 @@ impl fmt::Display for Reply {
 
     fn fmt<W: fmt::Write>(&self, f: &mut fmt::Formatter<W>) -> fmt::Result {
         match self {
-            Reply::Begins(letter, memory) => write!(f, "contract {letter} memory {memory}"),
             Reply::Granted(slot, level) => write!(f, "slot {slot} level {level}"),
             Reply::Refused(line, fault) => write!(f, "fault line {line} {fault}"),
             Reply::Foresees(slots, energy) => write!(f, "forecast {slots} energy {energy}"),

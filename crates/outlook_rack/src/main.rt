@@ -2,12 +2,14 @@
 // come, and whether the contract was kept.
 #![tactic(auto)]
 
-use contract::Contract;
+use anyhow::anyhow;
+use evening::{Terms, number_of, opening};
 use kinds::Switch;
 use layers::Floor;
-use outlook::{Evening, Reply, Terms, number_of, opening};
+use outlook::{Evening, Reply};
 use std::env;
 use std::io::{BufRead, BufReader};
+use std::process::ExitCode;
 
 // How many slots the forecast at the end goes ahead.
 const SLOTS_AHEAD: usize = 8;
@@ -20,16 +22,16 @@ fn read_terms(rt: &HostRuntime) -> anyhow::Result<Terms> {
     let mut given = 0;
     for word in env::args(rt)?.skip(1) {
         if given >= 4 {
-            return Err(USAGE.into());
+            return Err(anyhow!("{USAGE}"));
         }
         let Ok(number) = number_of(word.as_bytes()) else {
-            return Err(USAGE.into());
+            return Err(anyhow!("{USAGE}"));
         };
         numbers[given] = number;
         given += 1;
     }
     if given != 0 && given != 4 {
-        return Err(USAGE.into());
+        return Err(anyhow!("{USAGE}"));
     }
     let [cap, memory, allowance, floor] = numbers;
     Ok(Terms {
@@ -75,10 +77,13 @@ fn run(rt: &HostRuntime) -> anyhow::Result<()> {
     Ok(())
 }
 
-fn main(rt: HostRuntime) -> anyhow::Result<()> {
-    let done = run(&rt);
-    if let Err(error) = &done {
-        eprintln!(rt; "rack: {error}")?;
+fn main(rt: HostRuntime) -> ExitCode {
+    match run(&rt) {
+        Ok(()) => ExitCode::SUCCESS,
+        Err(error) => {
+            // Where not even this can be told, the status still tells.
+            let _told = eprintln!(rt; "rack: {error}");
+            ExitCode::FAILURE
+        }
     }
-    done
 }

@@ -1,36 +1,34 @@
 // What the benchmark calls from Rust: only numbers and slices pass between the two.
 #![tactic(auto)]
 
-ghost use Rattle.std.specs.Prelude.{◌≡◌, length, IfOk};
-ghost use Rattle.contract.specs.Faults.{refusal, unless_refused};
+ghost use Rattle.std.specs.Prelude.{◌≡◌, cond, not, is_some, length, Some, None, IfSome};
 ghost use Rattle.contract.specs.Meaning.{granted};
 ghost use Rattle.windows.specs.Forecasts.{forecast_energy, list_after};
 ghost use Rattle.windows.specs.Verdicts.{Judges};
 ghost use Rattle.outlook.specs.Agreed.{agreed};
-ghost use Rattle.speed.specs.Answers.{LeastMargin, audit_refusal, plan_refusal, terms};
+ghost use Rattle.speed.specs.Answers.{LeastMargin, audit_refused, plan_refused, terms};
 
-use contract::{Contract, Fault};
-use outlook::Terms;
+use contract::Contract;
+use evening::Terms;
 use windows::{Verdict, forecast, verdict};
 
-// A new contract grants one level and forecasts.
-fn plan(terms: Terms, level: u64, slots: u64, list: &mut [u32]) -> Result<u32, Fault>
-    ensures answer { refusal result ≡ plan_refusal terms level slots (length list.old) }
-    ensures energy { IfOk result (λ e. e ≡ forecast_energy (granted (agreed terms) level) slots) }
-    ensures after { list.new ≡ unless_refused (refusal result) list.old (list_after (granted (agreed terms) level) slots list.old) }
+// A new contract grants one level and forecasts; nothing where a call was refused.
+fn plan(terms: Terms, level: u64, slots: u64, list: &mut [u32]) -> Option<u32>
+    ensures energy { result ≡ cond (plan_refused terms level slots (length list.old)) None (Some (forecast_energy (granted (agreed terms) level) slots)) }
+    ensures after { list.new ≡ cond (plan_refused terms level slots (length list.old)) list.old (list_after (granted (agreed terms) level) slots list.old) }
 {
-    let mut contract = terms.agree()?;
-    contract.grant(level)?;
-    forecast(&contract, slots, list)
+    let mut contract = terms.agree().ok()?;
+    contract.grant(level).ok()?;
+    forecast(&contract, slots, list).ok()
 }
 
-// A new contract judges a record.
-fn audit(terms: Terms, record: &[u32]) -> Result<Verdict, Fault>
-    ensures answer { refusal result ≡ audit_refusal terms «record».now }
-    ensures judged { IfOk result (Judges (agreed terms) «record».now) }
+// A new contract judges a record; nothing where a call was refused.
+fn audit(terms: Terms, record: &[u32]) -> Option<Verdict>
+    ensures answer { not (is_some result) ≡ audit_refused terms «record».now }
+    ensures judged { IfSome result (Judges (agreed terms) «record».now) }
 {
-    let contract = terms.agree()?;
-    verdict(&contract, record)
+    let contract = terms.agree().ok()?;
+    verdict(&contract, record).ok()
 }
 
 // The energy of a forecast after one grant, and 0 after a refusal.
@@ -44,8 +42,8 @@ pub extern "C" fn guldoper_forecast(
     slots: u64,
     list: &mut [u32],
 ) -> u32
-    ensures energy { result ≡ unless_refused (plan_refusal (terms «cap» memory allowance floor) level slots (length list.old)) 0 (forecast_energy (granted (agreed (terms «cap» memory allowance floor)) level) slots) }
-    ensures after { list.new ≡ unless_refused (plan_refusal (terms «cap» memory allowance floor) level slots (length list.old)) list.old (list_after (granted (agreed (terms «cap» memory allowance floor)) level) slots list.old) }
+    ensures energy { result ≡ cond (plan_refused (terms «cap» memory allowance floor) level slots (length list.old)) 0 (forecast_energy (granted (agreed (terms «cap» memory allowance floor)) level) slots) }
+    ensures after { list.new ≡ cond (plan_refused (terms «cap» memory allowance floor) level slots (length list.old)) list.old (list_after (granted (agreed (terms «cap» memory allowance floor)) level) slots list.old) }
 {
     let terms = Terms {
         cap,
@@ -54,8 +52,8 @@ pub extern "C" fn guldoper_forecast(
         floor,
     };
     match plan(terms, level, slots, list) {
-        Ok(energy) => energy,
-        Err(_) => 0,
+        Some(energy) => energy,
+        None => 0,
     }
 }
 
@@ -68,7 +66,7 @@ pub extern "C" fn guldoper_margin(
     floor: u64,
     record: &[u32],
 ) -> i32
-    ensures { LeastMargin (audit_refusal (terms «cap» memory allowance floor) «record».now) (agreed (terms «cap» memory allowance floor)) «record».now result }
+    ensures { LeastMargin (audit_refused (terms «cap» memory allowance floor) «record».now) (agreed (terms «cap» memory allowance floor)) «record».now result }
 {
     let terms = Terms {
         cap,
@@ -77,8 +75,8 @@ pub extern "C" fn guldoper_margin(
         floor,
     };
     match audit(terms, record) {
-        Ok(Verdict::Kept(Some(tightest))) => tightest.margin,
-        Ok(Verdict::Broken(tightest)) => tightest.margin,
+        Some(Verdict::Kept(Some(tightest))) => tightest.margin,
+        Some(Verdict::Broken(tightest)) => tightest.margin,
         _ => 0,
     }
 }

@@ -1,5 +1,4 @@
 use Rattle.std.proofs.Common.{◌≡◌, ℕ, List, Some, None, vec_items, sym, subst}
-use Rattle.contract.specs.Faults.{code}
 use Rattle.windows.specs.Verdicts.{Judges, verdict_refusal}
 use Rattle.windows.proofs.Margins.{only_too_long}
 use Rattle.outlook.proofs.Carried.{levels_lawful}
@@ -20,8 +19,8 @@ pub returns-in-Err : goal.returns-in-Err
 returns-in-Err g c =
     let m = g.C.Contract.meaning c.args.self.now.contract in
     let xs = vec_items c.args.self.now.levels in
-    let refused = sym (subst (λ (l : List ℕ). Some (code c.in-Err.fault) ≡ verdict_refusal m l) c.as_slice.ensures.value c.in-Err.ensures.answer) in
+    let refused = sym (subst (λ (l : List ℕ). Some (c.in-Err.fault) ≡ verdict_refusal m l) c.as_slice.ensures.value c.in-Err.ensures.answer) in
     record {
       judged = refused;
-      kept = λ first r. only_too_long m xs (code c.in-Err.fault) (levels_lawful first m xs r).within_cap refused;
+      kept = λ first r. only_too_long m xs c.in-Err.fault (levels_lawful first m xs r).within_cap refused;
     }
