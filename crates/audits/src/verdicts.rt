@@ -6,6 +6,7 @@ use std::alloc::Global;
 use std::process::Abort;
 use std::test::Fail;
 use windows::{ListFault, Tightest, Verdict, verdict};
+use worked::worked_plan;
 
 fn kept(margin: i32, end: u32, length: u32) -> Result<Verdict, ListFault> {
     Ok(Verdict::Kept(Some(Tightest {
@@ -158,5 +159,48 @@ fn verdicts_are_written_with_their_sign(rt: HostRuntime) -> Result<(), Fail> {
         heap,
         broken(-30, 2, 4),
         "broken margin -30 end 2 length 4",
+    )
+}
+
+#[test]
+fn worked_by_hand(rt: HostRuntime) -> Result<(), Fail> {
+    let (judged, coming, energy) = worked_plan()?;
+    let tightest = Tightest {
+        margin: -30,
+        end: 2,
+        length: 2,
+    };
+    assert_eq!(rt; judged, Verdict::Broken(tightest));
+    assert_eq!(rt; coming, [60, 100]);
+    assert_eq!(rt; energy, 160);
+    Ok(())
+}
+
+fn shown(rt: &impl Abort, heap: Global, fault: ListFault, text: &str) -> Result<(), Fail> {
+    let shown = format!(in heap; "{fault}")?;
+    assert!(rt; shown.as_str() == text);
+    Ok(())
+}
+
+#[test]
+fn faults_are_shown_by_row(rt: HostRuntime) -> Result<(), Fail> {
+    let heap = rt.alloc();
+    shown(
+        &rt,
+        heap,
+        ListFault::AboveCap(4_294_967_296),
+        "layer contract number 7 detail 4294967296",
+    )?;
+    shown(
+        &rt,
+        heap,
+        ListFault::TooFar,
+        "layer list number 14 detail 0",
+    )?;
+    shown(
+        &rt,
+        heap,
+        ListFault::TooLong,
+        "layer list number 15 detail 0",
     )
 }

@@ -1,5 +1,5 @@
 -- What comes of a line that asks for a level, and of a whole evening.
-use Rattle.std.specs.Prelude.{◌≡◌, ℕ, ◌+◌, ◌-◌, ◌^◌, ◌<◌, min, ◌⊎◌, List, [], ◌∷◌, ◌++◌, reverse, length, Some, None}
+use Rattle.std.specs.Prelude.{◌≡◌, ℕ, ◌+◌, ◌-◌, ◌^◌, ◌<◌, min, List, [], ◌∷◌, ◌++◌, reverse, length, Some, None}
 use Rattle.contract.specs.Faults.{code}
 use Rattle.contract.specs.Meaning.{Meaning, granted}
 use Rattle.curve.specs.Reached.{standing, Reached}

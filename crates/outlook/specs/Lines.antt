@@ -1,6 +1,5 @@
 -- The bytes of each reply.
 use Rattle.std.specs.Prelude.{ℕ, List, ◌++◌, codes, decimal}
-use Rattle.std.proofs.Math.Utf8.{encode}
 use Rattle.contract.specs.Faults.{code}
 use Rattle.contract.specs.Shown.{code_text}
 use Rattle.windows.specs.Refusals.{row, row_text}

@@ -1,5 +1,5 @@
 -- What is read of a contract: its needs, and the sums of its newest levels.
-use Rattle.std.proofs.Common.{◌≡◌, ℕ, zero, suc, ◌+◌, ◌-◌, ◌*◌, ◌<◌, ◌≤◌, ◌≢◌, List, ◌∷◌, length, get_or, set, replicate, sym, refl, ap, subst, ⊎_elim, mul-le-mul, add-one, arith}
+use Rattle.std.proofs.Common.{◌≡◌, ℕ, zero, suc, ◌+◌, ◌*◌, ◌<◌, ◌≤◌, ◌≢◌, List, ◌∷◌, length, get_or, set, replicate, sym, refl, ap, subst, ⊎_elim, mul-le-mul, add-one, arith}
 use Rattle.std.proofs.lemmas.List.{get_or_past, get_or-set_same, get_or-set_other}
 use Rattle.std.proofs.lemmas.Bool.{cases_lt, cases_eq}
 use Rattle.contract.specs.Meaning.{Meaning, Limits, memory}

@@ -1,5 +1,5 @@
 -- The examples, by computation.
-use Rattle.std.proofs.Common.{ℕ, zero, suc, ◌*◌, ◌<◌, ◌≤◌, List, [], ◌∷◌, negsuc, ◌≤ℤ◌, ◌<ℤ◌, refl, zero-le, arith, lit≤}
+use Rattle.std.proofs.Common.{ℕ, zero, suc, ◌<◌, ◌≤◌, List, [], ◌∷◌, negsuc, ◌≤ℤ◌, ◌<ℤ◌, refl, arith, lit≤}
 use lib.Signed.{le_z_yes, lt_z_yes}
 use Rattle.windows.specs.Verdicts.{margin, shown, Judges}
 use Rattle.curve.specs.Worked.{hand_switch}

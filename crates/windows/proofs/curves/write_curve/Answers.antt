@@ -1,7 +1,6 @@
 use Rattle.std.proofs.Common.{◌≡◌, suc, ◌<◌, length, take, sym, ap, ◌∙◌, subst, arith, rules}
 use Rattle.std.proofs.lemmas.List.{length-set}
 use Rattle.std.proofs.lemmas.Bool.Decides.{nat_tests}
-use Rattle.contract.specs.Meaning.{memory}
 use Rattle.curve.specs.Curve.{IsCurve}
 use Rattle.curve.proofs.Curves.{curve_is}
 use Rattle.kinds.proofs.Copied.{copied_all}

@@ -1,4 +1,4 @@
-use Rattle.std.proofs.Common.{◌+◌, ltb, sym, ◌∙◌, arith}
+use Rattle.std.proofs.Common.{◌+◌, sym, ◌∙◌, arith}
 use Rattle.std.proofs.lemmas.Bool.{lt-ltb, le-ltb}
 use Rattle.windows.proofs.Scans.{above_here, above_later, above_nowhere}
 use Rattle.windows.proofs.judging.check_levels.Goals as goal
