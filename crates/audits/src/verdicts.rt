@@ -3,7 +3,6 @@ use contract::{Contract, Fault};
 use kinds::{Switch, Table};
 use layers::Floor;
 use std::alloc::Global;
-use std::process::Abort;
 use std::test::Fail;
 use windows::{ListFault, Tightest, Verdict, verdict};
 use worked::worked_plan;
@@ -137,29 +136,19 @@ fn record_of_65_535_levels_is_the_longest(rt: HostRuntime) -> Result<(), Fail> {
     Ok(())
 }
 
-fn said(
-    rt: &impl Abort,
-    heap: Global,
-    verdict: Result<Verdict, ListFault>,
-    text: &str,
-) -> Result<(), Fail> {
+fn is_said(heap: Global, verdict: Result<Verdict, ListFault>, text: &str) -> Result<bool, Fail> {
     let verdict = verdict?;
     let said = format!(in heap; "{verdict}")?;
-    assert!(rt; said.as_str() == text);
-    Ok(())
+    Ok(said.as_str() == text)
 }
 
 #[test]
 fn verdicts_are_written_with_their_sign(rt: HostRuntime) -> Result<(), Fail> {
     let heap = rt.alloc();
-    said(&rt, heap, Ok(Verdict::Kept(None)), "kept")?;
-    said(&rt, heap, kept(0, 3, 2), "kept margin 0 end 3 length 2")?;
-    said(
-        &rt,
-        heap,
-        broken(-30, 2, 4),
-        "broken margin -30 end 2 length 4",
-    )
+    assert!(rt; is_said(heap, Ok(Verdict::Kept(None)), "kept")?);
+    assert!(rt; is_said(heap, kept(0, 3, 2), "kept margin 0 end 3 length 2")?);
+    assert!(rt; is_said(heap, broken(-30, 2, 4), "broken margin -30 end 2 length 4")?);
+    Ok(())
 }
 
 #[test]
@@ -176,31 +165,17 @@ fn worked_by_hand(rt: HostRuntime) -> Result<(), Fail> {
     Ok(())
 }
 
-fn shown(rt: &impl Abort, heap: Global, fault: ListFault, text: &str) -> Result<(), Fail> {
+fn is_shown(heap: Global, fault: ListFault, text: &str) -> Result<bool, Fail> {
     let shown = format!(in heap; "{fault}")?;
-    assert!(rt; shown.as_str() == text);
-    Ok(())
+    Ok(shown.as_str() == text)
 }
 
 #[test]
 fn faults_are_shown_by_row(rt: HostRuntime) -> Result<(), Fail> {
     let heap = rt.alloc();
-    shown(
-        &rt,
-        heap,
-        ListFault::AboveCap(4_294_967_296),
-        "layer contract number 7 detail 4294967296",
-    )?;
-    shown(
-        &rt,
-        heap,
-        ListFault::TooFar,
-        "layer list number 14 detail 0",
-    )?;
-    shown(
-        &rt,
-        heap,
-        ListFault::TooLong,
-        "layer list number 15 detail 0",
-    )
+    let far = ListFault::AboveCap(4_294_967_296);
+    assert!(rt; is_shown(heap, far, "layer contract number 7 detail 4294967296")?);
+    assert!(rt; is_shown(heap, ListFault::TooFar, "layer list number 14 detail 0")?);
+    assert!(rt; is_shown(heap, ListFault::TooLong, "layer list number 15 detail 0")?);
+    Ok(())
 }
