@@ -3,7 +3,8 @@
 
 Run once, at the top, after the kit's port.py: types and facts in upper camel case, everything else in snake case.
 A dash stays only where it joins the names of two functions, as in `memory-layered`. Functions of src/, strings,
-inputs and outputs are left alone, and so are the names that Rattle makes for goals. It stops, and writes nothing,
+inputs and outputs are left alone, and so are the names that Rattle makes for goals, unless one is spelled as a lemma here (as
+`new-ring` in a path: put that right by hand). It stops, and writes nothing,
 where two names would fall together in one file."""
 import collections
 import os

@@ -70,7 +70,7 @@ impl Windows {
         requires { Low self.now.sums }
         ensures { result ≡ min conditions.now.«cap» (greatest (owed_by conditions.now.needs self.now.sums) conditions.now.memory) }
     {
-        // Signed, since vectors of signed numbers compare faster; it is never negative.
+        // Never negative, but signed: on plain x86-64 vectors of unsigned numbers have no order.
         let mut owed = conditions.needs[0] as i32;
         for k in 1..conditions.memory {
             owed = owed.max(excess(conditions.needs[k], self.sums[k - 1]));
