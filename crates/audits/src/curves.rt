@@ -1,19 +1,9 @@
 // Service curves, written to a caller's list.
-use contract::{Contract, Fault};
+use crate::samples::{floor, pile};
+use contract::Contract;
 use kinds::{Switch, Table};
-use layers::{Extra, Floor};
 use std::test::Fail;
 use windows::{ListFault, write_curve};
-
-fn floor() -> Result<Floor<Switch>, Fault> {
-    Ok(Floor::new(Switch::new(100, 4, 80)?, 20)?)
-}
-
-// Needs 3, 9 and 18.
-fn pile() -> Result<Floor<Extra<Table>>, Fault> {
-    let extra = Extra::new(Table::new(10, &[1, 5, 18])?, &[0, 9])?;
-    Ok(Floor::new(extra, 3)?)
-}
 
 // What was granted does not matter.
 #[test]

@@ -1,7 +1,7 @@
 // The lowest levels of the slots ahead, and the list that takes them.
+use crate::samples::{extra, pile};
 use contract::{Contract, Fault};
 use kinds::{Switch, Table};
-use layers::{Extra, Floor};
 use std::test::Fail;
 use windows::{ListFault, forecast};
 
@@ -10,16 +10,6 @@ fn owing() -> Result<Switch, Fault> {
     let mut switch = Switch::new(100, 4, 100)?;
     switch.grant(40)?;
     Ok(switch)
-}
-
-// Needs 1, 9 and 18.
-fn extra() -> Result<Extra<Table>, Fault> {
-    Ok(Extra::new(Table::new(10, &[1, 5, 18])?, &[0, 9])?)
-}
-
-// Needs 3, 9 and 18.
-fn pile() -> Result<Floor<Extra<Table>>, Fault> {
-    Ok(Floor::new(extra()?, 3)?)
 }
 
 #[test]

@@ -6,4 +6,6 @@ mod curves;
 #[cfg(test)]
 mod forecasts;
 #[cfg(test)]
+mod samples;
+#[cfg(test)]
 mod verdicts;

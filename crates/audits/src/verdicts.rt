@@ -1,8 +1,7 @@
 // Records judged by their tightest window.
-use contract::{Contract, Fault};
+use crate::samples::floor;
+use contract::Contract;
 use kinds::{Switch, Table};
-use layers::Floor;
-use std::alloc::Global;
 use std::test::Fail;
 use windows::{ListFault, Tightest, Verdict, verdict};
 use worked::worked_plan;
@@ -21,11 +20,6 @@ fn broken(margin: i32, end: u32, length: u32) -> Result<Verdict, ListFault> {
         end,
         length,
     }))
-}
-
-// Needs 20, 120, 220 and 320.
-fn floor() -> Result<Floor<Switch>, Fault> {
-    Ok(Floor::new(Switch::new(100, 4, 80)?, 20)?)
 }
 
 #[test]
@@ -136,18 +130,16 @@ fn record_of_65_535_levels_is_the_longest(rt: HostRuntime) -> Result<(), Fail> {
     Ok(())
 }
 
-fn is_said(heap: Global, verdict: Result<Verdict, ListFault>, text: &str) -> Result<bool, Fail> {
-    let verdict = verdict?;
-    let said = format!(in heap; "{verdict}")?;
-    Ok(said.as_str() == text)
-}
-
 #[test]
 fn verdicts_are_written_with_their_sign(rt: HostRuntime) -> Result<(), Fail> {
-    let heap = rt.alloc();
-    assert!(rt; is_said(heap, Ok(Verdict::Kept(None)), "kept")?);
-    assert!(rt; is_said(heap, kept(0, 3, 2), "kept margin 0 end 3 length 2")?);
-    assert!(rt; is_said(heap, broken(-30, 2, 4), "broken margin -30 end 2 length 4")?);
+    for (verdict, text) in [
+        (Ok(Verdict::Kept(None)), "kept"),
+        (kept(0, 3, 2), "kept margin 0 end 3 length 2"),
+        (broken(-30, 2, 4), "broken margin -30 end 2 length 4"),
+    ] {
+        let verdict = verdict?;
+        assert_eq!(rt; format!(in rt.alloc(); "{verdict}")?.as_str(), text);
+    }
     Ok(())
 }
 
@@ -165,17 +157,17 @@ fn worked_by_hand(rt: HostRuntime) -> Result<(), Fail> {
     Ok(())
 }
 
-fn is_shown(heap: Global, fault: ListFault, text: &str) -> Result<bool, Fail> {
-    let shown = format!(in heap; "{fault}")?;
-    Ok(shown.as_str() == text)
-}
-
 #[test]
 fn faults_are_shown_by_row(rt: HostRuntime) -> Result<(), Fail> {
-    let heap = rt.alloc();
-    let far = ListFault::AboveCap(4_294_967_296);
-    assert!(rt; is_shown(heap, far, "layer contract number 7 detail 4294967296")?);
-    assert!(rt; is_shown(heap, ListFault::TooFar, "layer list number 14 detail 0")?);
-    assert!(rt; is_shown(heap, ListFault::TooLong, "layer list number 15 detail 0")?);
+    for (fault, text) in [
+        (
+            ListFault::AboveCap(4_294_967_296),
+            "layer contract number 7 detail 4294967296",
+        ),
+        (ListFault::TooFar, "layer list number 14 detail 0"),
+        (ListFault::TooLong, "layer list number 15 detail 0"),
+    ] {
+        assert_eq!(rt; format!(in rt.alloc(); "{fault}")?.as_str(), text);
+    }
     Ok(())
 }

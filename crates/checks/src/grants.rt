@@ -77,7 +77,7 @@ fn table_answers_its_needs(rt: HostRuntime) -> Result<(), Fail> {
 fn ring_goes_round(rt: HostRuntime) -> Result<(), Fail> {
     let mut switch = Switch::new(1000, 96, 96_000)?;
     for level in 0..200u32 {
-        switch.grant(level as u64)?;
+        switch.grant(u64::from(level))?;
         assert_eq!(rt; switch.back(1), level);
     }
     assert_eq!(rt; (switch.back(1), switch.back(2)), (199, 198));

@@ -2,29 +2,19 @@
 use contract::{Contract, Fault};
 use kinds::{Switch, Table};
 use layers::{Extra, Floor, Returned};
-use std::alloc::Global;
 use std::test::Fail;
 
 fn switch_fault(cap: u64, memory: u64, allowance: u64) -> Option<Fault> {
-    match Switch::new(cap, memory, allowance) {
-        Ok(_) => None,
-        Err(fault) => Some(fault),
-    }
+    Switch::new(cap, memory, allowance).err()
 }
 
 fn table_fault(cap: u64, needs: &[u64]) -> Option<Fault> {
-    match Table::new(cap, needs) {
-        Ok(_) => None,
-        Err(fault) => Some(fault),
-    }
+    Table::new(cap, needs).err()
 }
 
 // Of a refused layer: its fault, and the newest level that the contract given back recalls.
 fn returned<L: Drop, C: Contract + Drop>(laid: Result<L, Returned<C>>) -> Option<(Fault, u32)> {
-    match laid {
-        Ok(_) => None,
-        Err(back) => Some((back.fault, back.contract.back(1))),
-    }
+    laid.err().map(|back| (back.fault, back.contract.back(1)))
 }
 
 #[test]
@@ -150,28 +140,20 @@ fn layers_over_contracts_that_stand_as_new(rt: HostRuntime) -> Result<(), Fail> 
     Ok(())
 }
 
-fn is_shown(heap: Global, fault: Fault, text: &str) -> Result<bool, Fail> {
-    let said = format!(in heap; "{fault}")?;
-    Ok(said.as_str() == text)
-}
-
 #[test]
 fn faults_are_shown_by_row(rt: HostRuntime) -> Result<(), Fail> {
-    let heap = rt.alloc();
-    assert!(rt; is_shown(heap, Fault::Unreadable, "layer text number 1 detail 0")?);
-    assert!(rt; is_shown(heap, Fault::Cap, "layer contract number 3 detail 0")?);
-    assert!(rt; is_shown(heap, Fault::Memory, "layer contract number 4 detail 0")?);
-    assert!(rt; is_shown(heap, Fault::OwnNeed(7), "layer contract number 5 detail 7")?);
-    assert!(rt; is_shown(heap, Fault::Allowance, "layer contract number 5 detail 0")?);
-    assert!(rt; is_shown(heap, Fault::Floor, "layer contract number 5 detail 0")?);
-    assert!(rt; is_shown(heap, Fault::NotNew, "layer contract number 6 detail 0")?);
-    assert!(rt; is_shown(heap, Fault::AboveCap, "layer contract number 7 detail 0")?);
-    assert!(rt;
-        is_shown(
-            heap,
-            Fault::BelowLowest(60),
-            "layer contract number 8 detail 60"
-        )?
-    );
+    for (fault, text) in [
+        (Fault::Unreadable, "layer text number 1 detail 0"),
+        (Fault::Cap, "layer contract number 3 detail 0"),
+        (Fault::Memory, "layer contract number 4 detail 0"),
+        (Fault::OwnNeed(7), "layer contract number 5 detail 7"),
+        (Fault::Allowance, "layer contract number 5 detail 0"),
+        (Fault::Floor, "layer contract number 5 detail 0"),
+        (Fault::NotNew, "layer contract number 6 detail 0"),
+        (Fault::AboveCap, "layer contract number 7 detail 0"),
+        (Fault::BelowLowest(60), "layer contract number 8 detail 60"),
+    ] {
+        assert_eq!(rt; format!(in rt.alloc(); "{fault}")?.as_str(), text);
+    }
     Ok(())
 }

@@ -1,3 +1,4 @@
 pub mod Sums
 pub mod Levels
 pub mod Admitted
+pub mod Scans

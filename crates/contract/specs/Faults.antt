@@ -29,21 +29,21 @@ refusal (Ok x) = None
 refusal (Err f) = Some (code f)
 
 -- an answer that is a refusal
-abbrev pub Refused : Option Code → Type 0
+abbrev pub Refused : {F : Type 0} → Option F → Type 0
 Refused None = ⊥
 Refused (Some c) = Unit
 
 -- a check: it refuses if the test is true, and else the rest decides
-abbrev pub refuse_if : Bool → Code → Option Code → Option Code
+abbrev pub refuse_if : {F : Type 0} → Bool → F → Option F → Option F
 refuse_if bad c rest = cond bad (Some c) rest
 
 -- the first refusal of two
-abbrev pub or_else : Option Code → Option Code → Option Code
+abbrev pub or_else : {F : Type 0} → Option F → Option F → Option F
 or_else None rest = rest
 or_else (Some c) rest = Some c
 
 -- what is held after a call: the old value if it was refused
-abbrev pub unless_refused : {X : Type 0} → Option Code → X → X → X
+abbrev pub unless_refused : {F X : Type 0} → Option F → X → X → X
 unless_refused None old new = new
 unless_refused (Some c) old new = old
 

@@ -1,9 +1,8 @@
 -- The first element of a list that fails a test.
 use Rattle.std.specs.Prelude.{ℕ, ◌+◌, Bool, List, [], ◌∷◌, None, Option}
-use Rattle.contract.specs.declared.faults.Code.{Code}
-use Rattle.contract.specs.Faults.{contract_fault, refuse_if}
+use Rattle.contract.specs.Faults.{refuse_if}
 
--- the elements stand at the places k, k + 1 and so on; the refusal has the place as its detail
-abbrev pub first_failing : (ℕ → ℕ → Bool) → ℕ → ℕ → List ℕ → Option Code
-first_failing bad number k [] = None
-first_failing bad number k (x ∷ xs) = refuse_if (bad k x) (contract_fault number k) (first_failing bad number (k + 1) xs)
+-- the elements stand at the places k, k + 1 and so on, and the refusal is told by the place
+abbrev pub first_failing : {F : Type 0} → (ℕ → ℕ → Bool) → (ℕ → F) → ℕ → List ℕ → Option F
+first_failing bad fault k [] = None
+first_failing bad fault k (x ∷ xs) = refuse_if (bad k x) (fault k) (first_failing bad fault (k + 1) xs)

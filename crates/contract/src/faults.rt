@@ -33,6 +33,7 @@ pub enum Fault {
 pub enum Layer {
     Text,
     Contract,
+    List,
 }
 
 // A fault as it is shown: one row of the fault table, and what that row tells besides.
@@ -40,7 +41,7 @@ pub enum Layer {
 pub struct Code {
     pub layer: Layer,
     pub number: u32,
-    pub detail: u32,
+    pub detail: u64,
 }
 
 impl Fault {
@@ -52,11 +53,11 @@ impl Fault {
             Fault::Unreadable => (Layer::Text, 1, 0),
             Fault::Cap => (Layer::Contract, 3, 0),
             Fault::Memory => (Layer::Contract, 4, 0),
-            Fault::OwnNeed(length) => (Layer::Contract, 5, length),
+            Fault::OwnNeed(length) => (Layer::Contract, 5, u64::from(length)),
             Fault::Allowance | Fault::Floor => (Layer::Contract, 5, 0),
             Fault::NotNew => (Layer::Contract, 6, 0),
             Fault::AboveCap => (Layer::Contract, 7, 0),
-            Fault::BelowLowest(lowest) => (Layer::Contract, 8, lowest),
+            Fault::BelowLowest(lowest) => (Layer::Contract, 8, u64::from(lowest)),
         };
         Code {
             layer,
@@ -66,6 +67,7 @@ impl Fault {
     }
 }
 
+// Written out, as `thiserror` derives no contract, and the bytes are promised.
 impl fmt::Display for Layer {
     ghost output = { λ x. Some (layer_name x) };
 
@@ -73,6 +75,7 @@ impl fmt::Display for Layer {
         match self {
             Layer::Text => write!(f, "text"),
             Layer::Contract => write!(f, "contract"),
+            Layer::List => write!(f, "list"),
         }
     }
 }
@@ -81,9 +84,11 @@ impl fmt::Display for Code {
     ghost output = { λ x. Some (code_text x) };
 
     fn fmt<W: fmt::Write>(&self, f: &mut fmt::Formatter<W>) -> fmt::Result {
-        let layer = self.layer;
-        let number = self.number;
-        let detail = self.detail;
+        let Code {
+            layer,
+            number,
+            detail,
+        } = self;
         write!(f, "layer {layer} number {number} detail {detail}")
     }
 }
@@ -92,8 +97,7 @@ impl fmt::Display for Fault {
     ghost output = { λ x. Some (code_text (code x)) };
 
     fn fmt<W: fmt::Write>(&self, f: &mut fmt::Formatter<W>) -> fmt::Result {
-        let code = self.code();
-        write!(f, "{code}")
+        write!(f, "{}", self.code())
     }
 }
 

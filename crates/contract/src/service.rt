@@ -6,17 +6,19 @@ ghost use Rattle.contract.specs.Faults.{refusal, grant_refusal, unless_refused};
 use crate::faults::Fault;
 
 pub trait Contract {
-    // The letter of the kind.
+    // The letter of the kind, and what clauses know of it.
     const LETTER: char;
 
-    // The same letter for clauses, which cannot name a constant of a trait.
-    ghost mark: { ℕ };
+    ghost LETTER: { ℕ };
 
     // Cap, needs and recalled levels.
     ghost meaning: { Self → Meaning };
 
     fn kind(&self) -> char
-        ensures { result ≡ mark };
+        ensures { result ≡ LETTER }
+    {
+        Self::LETTER
+    }
 
     // The most energy that one slot may be granted.
     fn cap(&self) -> u32
@@ -35,12 +37,13 @@ pub trait Contract {
         ensures { result ≡ back (meaning self.now) slots };
 
     // The least level that may be granted next.
+    #[tactic(auto, using(crate::proofs::Levels::greatest_more, crate::proofs::Levels::newest_more))]
     fn lowest(&self) -> u32
         ensures { result ≡ lowest (meaning self.now) }
     {
         let mut owed = 0u32;
         let mut recent = 0u32;
-        for k in 1..self.memory() + 1 {
+        for k in 1..=self.memory() {
             owed = owed.max(self.need(k).saturating_sub(recent));
             recent += self.back(k);
         }
@@ -52,7 +55,7 @@ pub trait Contract {
         ensures answer { refusal result ≡ grant_refusal (meaning self.now) level }
         ensures value { IfOk result (λ x. x ≡ level) }
     {
-        if level > self.cap() as u64 {
+        if level > u64::from(self.cap()) {
             return Err(Fault::AboveCap);
         }
         let level = level as u32;

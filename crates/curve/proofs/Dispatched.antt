@@ -15,7 +15,7 @@ use Rattle.curve.proofs.Places.{Stepwise, steps_lawful, lawful_steps, steps_past
 -- a refusal is never the answer of a call that was not refused
 refused_not : (o : Option Code) → Refused o → o ≡ None → ⊥
 refused_not None r e = r
-refused_not (Some c) r e = let z : ◌≡◌ {A = ℕ} 0 1 = cc in omega arith
+refused_not (Some c) r e = cc
 
 refused_else : (o : Option Code) → (o ≡ None → ⊥) → Refused o
 refused_else None n = n refl

@@ -9,6 +9,7 @@ use kinds::Switch;
 
 // An evening on a switch with cap 100, memory 4 and allowance 100: lowest when new, after 40, and after 60,
 // and what 59 is answered between the two.
+#[tactic(auto, using(crate::proofs::Worked::worked))]
 pub fn worked_evening() -> Result<([u32; 3], Result<(), Fault>), Fault>
     ensures answers { told result ≡ Some ((0 ∷ (60 ∷ (100 ∷ []))), Some (contract_fault 8 60)) }
     ensures worked { Worked }

@@ -1,8 +1,7 @@
 // An evening on one contract.
 ghost use Rattle.std.specs.Prelude.{◌≡◌, MatchResult};
 ghost use Rattle.contract.specs.Faults.{code};
-ghost use Rattle.contract.specs.Meaning.{lowest, granted};
-ghost use Rattle.evening.specs.Evenings.{GrantedLine, RefusedLine, Replies, books, counted};
+ghost use Rattle.contract.specs.Meaning.{lowest};
 ghost use Rattle.evening.specs.declared.replies.Reply.TheVariants.{Ends};
 
 use crate::numerals::level_of;
@@ -19,6 +18,8 @@ pub struct Evening<C> {
 }
 
 impl<C: Contract> Evening<C> {
+    ghost use Rattle.evening.specs.Evenings.{GrantedLine, RefusedLine, Replies, after_grant, booked};
+
     pub fn new(contract: C) -> Evening<C>
         ensures { (result.contract ≡ contract) × (result.slots ≡ 0) × (result.energy ≡ 0) }
     {
@@ -32,9 +33,7 @@ impl<C: Contract> Evening<C> {
     // Asks for the level that the line writes. A refused line changes nothing.
     fn ask(&mut self, line: &[u8]) -> Result<u64, Fault>
         ensures answer { MatchResult result (GrantedLine (C.meaning self.old.contract) line.now) (λ e. RefusedLine (C.meaning self.old.contract) line.now (code e)) }
-        ensures held { MatchResult result (λ level. C.meaning self.new.contract ≡ granted (C.meaning self.old.contract) level) (λ _. C.meaning self.new.contract ≡ C.meaning self.old.contract) }
-        ensures slots { MatchResult result (λ _. self.new.slots ≡ counted self.old.slots 1) (λ _. self.new.slots ≡ self.old.slots) }
-        ensures energy { MatchResult result (λ level. self.new.energy ≡ counted self.old.energy level) (λ _. self.new.energy ≡ self.old.energy) }
+        ensures after { MatchResult result (λ level. booked C.meaning self.new ≡ after_grant (booked C.meaning self.old) level) (λ _. booked C.meaning self.new ≡ booked C.meaning self.old) }
     {
         let level = level_of(line)?;
         dispatch(&mut self.contract, level)?;
@@ -45,12 +44,19 @@ impl<C: Contract> Evening<C> {
 
     // What comes of line number `count`.
     pub fn answer(&mut self, count: u64, line: &[u8]) -> Reply
-        ensures { Replies (books (C.meaning self.old.contract) self.old.slots self.old.energy) (books (C.meaning self.new.contract) self.new.slots self.new.energy) count line.now result }
+        ensures { Replies (booked C.meaning self.old) (booked C.meaning self.new) count line.now result }
     {
         match self.ask(line) {
             Ok(level) => Reply::Granted(self.slots, level),
             Err(fault) => Reply::Refused(count, fault),
         }
+    }
+
+    // The contract as the levels granted so far have left it.
+    pub fn contract(&self) -> &C
+        ensures { result.now ≡ self.now.contract }
+    {
+        &self.contract
     }
 
     // How the evening ends: slots, energy, and the lowest level that may come next.

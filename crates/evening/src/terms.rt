@@ -1,9 +1,8 @@
 // What the evening's contract is made of.
-ghost use Rattle.std.specs.Prelude.{◌≡◌, IfOk};
+ghost use Rattle.std.specs.Prelude.{◌≡◌, [], ◌∷◌, IfOk};
 ghost use Rattle.contract.specs.Faults.{refusal, or_else};
 ghost use Rattle.contract.specs.Meaning.{New, memory};
 ghost use Rattle.kinds.specs.Kinds.{new_switch, switch_refusal};
-ghost use Rattle.kinds.specs.Switches.{switch_meaning};
 ghost use Rattle.layers.specs.Layers.{floored, floor_refusal};
 ghost use Rattle.evening.specs.declared.replies.Reply.TheVariants.{Begins};
 
@@ -21,22 +20,35 @@ pub struct Terms {
     pub floor: u64,
 }
 
+// In the order of the command line.
+impl From<[u64; 4]> for Terms {
+    ghost from_gives = { λ numbers terms. numbers ≡ terms.«cap» ∷ (terms.memory ∷ (terms.allowance ∷ (terms.floor ∷ []))) };
+
+    fn from([cap, memory, allowance, floor]: [u64; 4]) -> Terms {
+        Terms {
+            cap,
+            memory,
+            allowance,
+            floor,
+        }
+    }
+}
+
 impl Terms {
     // The contract, or why there is none.
     pub fn agree(self) -> Result<Floor<Switch>, Fault>
         ensures answer { refusal result ≡ or_else (switch_refusal self.«cap» self.memory self.allowance) (floor_refusal (new_switch self.«cap» self.memory self.allowance) self.floor) }
-        ensures made { IfOk result (λ s. floored (switch_meaning s.below) s.floor ≡ floored (new_switch self.«cap» self.memory self.allowance) self.floor) }
-        ensures begun { IfOk result (λ s. New (floored (switch_meaning s.below) s.floor)) }
+        ensures made { IfOk result (λ s. ⟦<Floor<Switch> as Contract>⟧.meaning s ≡ floored (new_switch self.«cap» self.memory self.allowance) self.floor) }
+        ensures begun { IfOk result (λ s. New (⟦<Floor<Switch> as Contract>⟧.meaning s)) }
     {
         let switch = Switch::new(self.cap, self.memory, self.allowance)?;
-        let contract = Floor::new(switch, self.floor)?;
-        Ok(contract)
+        Ok(Floor::new(switch, self.floor)?)
     }
 }
 
 // How the evening begins: the letter of the kind below the floor, and the memory.
 pub fn opening(contract: &Floor<Switch>) -> Reply
-    ensures { result ≡ Begins 83 (memory (floored (switch_meaning contract.now.below) contract.now.floor)) }
+    ensures { result ≡ Begins 83 (memory (⟦<Floor<Switch> as Contract>⟧.meaning contract.now)) }
 {
     Reply::Begins(Switch::LETTER, contract.memory())
 }

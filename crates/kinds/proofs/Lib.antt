@@ -1,4 +1,4 @@
 pub mod Turns
 pub mod Scans
-pub mod Copied
 pub mod Taken
+pub mod Copied

@@ -5,7 +5,7 @@ use Rattle.contract.specs.declared.faults.Code.{Code}
 use Rattle.contract.specs.declared.faults.Fault.{Fault}
 use Rattle.contract.specs.declared.faults.Fault.TheVariants.{Unreadable, Cap, Memory, OwnNeed, Allowance, Floor, NotNew, AboveCap, BelowLowest}
 use Rattle.contract.specs.Meaning.{Meaning}
-use Rattle.contract.specs.Faults.{contract_fault, refuse_if}
+use Rattle.contract.specs.Faults.{contract_fault, refuse_if, or_else}
 use Rattle.contract.specs.Scans.{first_failing}
 
 -- the needs f 1 to f n
@@ -20,6 +20,10 @@ outside low high x = nat_lt x low || nat_lt high x
 abbrev pub begun : ℕ → ℕ → List ℕ → Meaning
 begun top memory needs = record { «cap» = top; needs = needs; recall = replicate (memory - 1) top }
 
+-- a cap or a memory outside its limits
+abbrev pub sizes_refusal : ℕ → ℕ → Option Code
+sizes_refusal top memory = refuse_if (outside 1 20000 top) (contract_fault 3 0) (refuse_if (outside 1 96 memory) (contract_fault 4 0) None)
+
 -- the switch: k times the cap, less the allowance
 abbrev pub switch_need : ℕ → ℕ → ℕ → ℕ
 switch_need top allowance k = k * top - allowance
@@ -29,9 +33,7 @@ new_switch top memory allowance = begun top memory (needs_by (switch_need top al
 
 abbrev pub switch_refusal : ℕ → ℕ → ℕ → Option Code
 switch_refusal top memory allowance =
-    refuse_if (outside 1 20000 top) (contract_fault 3 0)
-    (refuse_if (outside 1 96 memory) (contract_fault 4 0)
-    (refuse_if (nat_lt (memory * top) allowance) (contract_fault 5 0) None))
+    or_else (sizes_refusal top memory) (refuse_if (nat_lt (memory * top) allowance) (contract_fault 5 0) None)
 
 -- why a making of a switch is refused: an allowance and a floor that are too great show the same code
 abbrev pub SwitchFault : Fault → Type 0
@@ -51,10 +53,8 @@ new_table top needs = begun top (length needs) needs
 
 -- the first need, from length k on, that is above its length times the cap
 abbrev pub too_great : ℕ → ℕ → List ℕ → Option Code
-too_great top = first_failing (λ k x. nat_lt (k * top) x) 5
+too_great top = first_failing (λ k x. nat_lt (k * top) x) (contract_fault 5)
 
 abbrev pub needs_refusal : ℕ → List ℕ → Option Code
 needs_refusal top needs =
-    refuse_if (outside 1 20000 top) (contract_fault 3 0)
-    (refuse_if (outside 1 96 (length needs)) (contract_fault 4 0)
-    (too_great top 1 needs))
+    or_else (sizes_refusal top (length needs)) (too_great top 1 needs)

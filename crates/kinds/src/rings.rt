@@ -43,11 +43,7 @@ impl Ring {
         ensures after { recent self.new ≡ level ∷ take 95 (recent self.old) }
         ensures held { (top : ℕ) → Held top self.old → level ≤ top → Held top self.new }
     {
-        let at = if self.newest == 0 {
-            95
-        } else {
-            self.newest - 1
-        };
+        let at = self.newest.checked_sub(1).unwrap_or(95);
         self.levels[at] = level;
         self.newest = at;
     }

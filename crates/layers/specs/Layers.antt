@@ -1,5 +1,6 @@
 -- Layers: they share cap, memory and recall with what they lie over, and owe no less.
-use Rattle.std.specs.Prelude.{◌≡◌, ℕ, ◌*◌, min, max, Bool, false, ◌||◌, List, [], ◌∷◌, length, Some, None, Ok, Err, Option, Result, nat_lt, slice_index}
+use Rattle.std.specs.Prelude.{◌≡◌, ℕ, ◌*◌, min, max, Bool, ◌||◌, List, ◌∷◌, length, Some, None, Ok, Err, Option, Result, nat_lt, slice_index}
+use Rattle.std.specs.List.{list_any}
 use Rattle.contract.specs.declared.faults.Code.{Code}
 use Rattle.contract.specs.declared.faults.Fault.{Fault}
 use Rattle.contract.specs.declared.faults.Fault.TheVariants.{Unreadable, Cap, Memory, OwnNeed, Allowance, Floor, NotNew, AboveCap, BelowLowest}
@@ -28,8 +29,7 @@ extended m own = layered m (extra_need m.«cap» own)
 
 -- whether a level is under top
 abbrev pub any_under : ℕ → List ℕ → Bool
-any_under top [] = false
-any_under top (x ∷ xs) = nat_lt x top || any_under top xs
+any_under top = list_any (λ x. nat_lt x top)
 
 -- a contract that recalls a level under the cap takes no layer
 abbrev pub recalled_refusal : Meaning → Option Code

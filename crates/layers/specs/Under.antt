@@ -1,32 +1,21 @@
--- Going through the recalled levels for one under the cap.
-use Rattle.std.specs.Prelude.{◌≡◌, ℕ, zero, suc, ◌+◌, ◌-◌, ◌<◌, ◌≤◌, Bool, true, false, ◌||◌, List, [], ◌∷◌, length, drop, replicate, nat_lt, slice_index, refl}
+-- Recalled levels none of which is under the cap.
+use Rattle.std.specs.Prelude.{◌≡◌, ℕ, zero, suc, ◌+◌, ◌<◌, ◌≤◌, Bool, true, false, ◌||◌, List, [], ◌∷◌, length, replicate, nat_lt, slice_index, refl}
+use Rattle.std.specs.List.{list_any, range_with_len}
 use Rattle.std.proofs.Common.{ap, ◌∙◌, arith}
-use Rattle.std.proofs.lemmas.List.{drop_more, drop_all}
-use Rattle.std.proofs.lemmas.Bool.{lt-ltb, le-ltb, ltb-false}
+use Rattle.std.proofs.lemmas.Bool.{ltb-false}
 use Rattle.layers.specs.Layers.{any_under}
 
-module _ (top : ℕ) (xs : List ℕ) where
-  step : (j : ℕ) → j < length xs → any_under top (drop j xs) ≡ (nat_lt (slice_index xs j) top || any_under top (drop (j + 1) xs))
-  step j h = ap (any_under top) (drop_more xs j 0 h)
-
-  pub under_here : (i : ℕ) → 1 ≤ i → i ≤ length xs → slice_index (0 ∷ xs) i < top → any_under top (drop (i - 1) xs) ≡ true
-  under_here zero a b h = absurd (omega arith)
-  under_here (suc j) a b h =
-      let d : suc j - 1 ≡ j = omega arith in
-      rw d (step j (omega arith) ∙ ap (λ t. t || any_under top (drop (j + 1) xs)) (lt-ltb (slice_index xs j) top h))
-
-  pub under_later : (i : ℕ) → 1 ≤ i → i ≤ length xs → top ≤ slice_index (0 ∷ xs) i → any_under top (drop (i - 1) xs) ≡ any_under top (drop ((i + 1) - 1) xs)
-  under_later zero a b h = absurd (omega arith)
-  under_later (suc j) a b h =
-      let d : suc j - 1 ≡ j = omega arith in
-      let e : (suc j + 1) - 1 ≡ j + 1 = omega arith in
-      rw (d, e) (step j (omega arith) ∙ ap (λ t. t || any_under top (drop (j + 1) xs)) (le-ltb (slice_index xs j) top h))
-
-  pub under_nowhere : (i : ℕ) → length xs < i → any_under top (drop (i - 1) xs) ≡ false
-  under_nowhere i h = ap (any_under top) (drop_all (i - 1) xs (omega arith))
+-- a test of places is a test of what stands there
+pub any_at : (f p : ℕ → Bool) (xs : List ℕ) (a : ℕ) → ((k : ℕ) → k < length xs → f (a + k) ≡ p (slice_index xs k)) → list_any f (range_with_len a (length xs)) ≡ list_any p xs
+any_at f p [] a same = refl
+any_at f p (x ∷ xs) a same =
+    let z : a ≡ a + 0 = omega arith in
+    let here : f a ≡ p x = ap f z ∙ same 0 (omega arith) in
+    let there : list_any f (range_with_len (a + 1) (length xs)) ≡ list_any p xs = any_at f p xs (a + 1) (λ k h. let e : (a + 1) + k ≡ a + suc k = omega arith in ap f e ∙ same (suc k) (omega arith)) in
+    cc
 
 neither : (a b : Bool) → (a || b) ≡ false → (a ≡ false) × (b ≡ false)
-neither true b e = let z : ◌≡◌ {A = ℕ} 0 1 = cc in absurd (omega arith)
+neither true b e = absurd (cc)
 neither false b e = (refl, e)
 
 -- levels none of which is under top, nor above it

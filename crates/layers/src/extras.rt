@@ -1,25 +1,46 @@
 // The extra: needs of its own beside those below.
-ghost use Rattle.std.specs.Prelude.{◌≡◌, IfOk, MatchResult};
-ghost use Rattle.contract.specs.Meaning.{New};
+ghost use Rattle.std.specs.Prelude.{◌≡◌, ◌||◌, length, nat_lt, IfOk, MatchResult};
+ghost use Rattle.contract.specs.Faults.{contract_fault, refusal, refuse_if};
+ghost use Rattle.contract.specs.Meaning.{New, memory};
+ghost use Rattle.kinds.specs.Kinds.{outside, too_great};
 ghost use Rattle.kinds.specs.Listed.{listed};
 ghost use Rattle.layers.specs.Layers.{Answers, extended, extra_refusal, extra_need};
 ghost use Rattle.layers.specs.Laid.{extra_most};
-ghost use Rattle.layers.specs.Layering.{limits_layered};
 
-use crate::over::{Returned, recalls_under_cap};
+use crate::over::{Over, Returned};
+use crate::own::OwnNeeds;
 use contract::{Contract, Fault};
 use kinds::Needs;
 
-// A clause learns the value of a constant of the module, and not of one of a generic block.
-const EXTRA_LETTER: char = 'E';
+pub type Extra<C> = Over<C, Needs>;
 
-#[derive(Drop)]
-pub struct Extra<C> {
-    below: C,
-    own: Needs,
+impl OwnNeeds for Needs {
+    const LETTER: char = 'E';
+
+    ghost LETTER = { 69 };
+
+    ghost own = { λ s top k. extra_need top (listed s) k };
+
+    ghost most = { λ s top k. extra_most top (listed s) k };
+
+    fn own_need(&self, cap: u32, length: u32) -> u64 {
+        let most = u64::from(length) * u64::from(cap);
+        u64::from(self.need(length)).min(most)
+    }
 }
 
-impl<C: Contract> Extra<C> {
+// Needs that fit below: no more of them than its memory, and each within its limit.
+fn needs_over<C: Contract>(below: &C, needs: &[u64]) -> Result<Needs, Fault>
+    ensures answer { refusal result ≡ refuse_if (outside 1 96 (length needs.now) || nat_lt (memory (C.meaning below.now)) (length needs.now)) (contract_fault 4 0) (too_great (C.meaning below.now).«cap» 1 needs.now) }
+    ensures made { IfOk result (λ n. listed n ≡ needs.now) }
+{
+    if needs.len() > below.memory() as usize {
+        return Err(Fault::Memory);
+    }
+    Needs::new(u64::from(below.cap()), needs)
+}
+
+impl<C: Contract> Over<C, Needs> {
     // Refuses needs that are none, longer than the memory below or above their limit, and a contract that
     // recalls a level under the cap.
     pub fn new(below: C, needs: &[u64]) -> Result<Extra<C>, Returned<C>>
@@ -27,68 +48,7 @@ impl<C: Contract> Extra<C> {
         ensures made { MatchResult result (λ s. (s.below ≡ below) × (listed s.own ≡ needs.now)) (λ e. e.contract ≡ below) }
         ensures begun { IfOk result (λ s. New (extended (C.meaning s.below) (listed s.own))) }
     {
-        if needs.len() > below.memory() as usize {
-            return Err(Returned {
-                fault: Fault::Memory,
-                contract: below,
-            });
-        }
-        let own = match Needs::new(below.cap() as u64, needs) {
-            Ok(own) => own,
-            Err(fault) => {
-                return Err(Returned {
-                    fault,
-                    contract: below,
-                });
-            }
-        };
-        if recalls_under_cap(&below) {
-            return Err(Returned {
-                fault: Fault::NotNew,
-                contract: below,
-            });
-        }
-        Ok(Extra { below, own })
-    }
-}
-
-impl<C: Contract> Contract for Extra<C> {
-    const LETTER: char = EXTRA_LETTER;
-
-    ghost mark = { 69 };
-
-    ghost meaning = { λ s. extended (C.Contract.meaning s.below) (listed s.own) };
-
-    ghost limits = { λ s.
-        let m = C.Contract.meaning s.below in
-        limits_layered m (extra_need m.«cap» (listed s.own)) (C.Contract.limits s.below) (λ k low high. extra_most m.«cap» (listed s.own) k) };
-
-    fn kind(&self) -> char {
-        EXTRA_LETTER
-    }
-
-    fn cap(&self) -> u32 {
-        self.below.cap()
-    }
-
-    fn memory(&self) -> u32 {
-        self.below.memory()
-    }
-
-    fn need(&self, length: u32) -> u32 {
-        if length > self.below.memory() {
-            return 0;
-        }
-        let most = length * self.below.cap();
-        self.below.need(length).max(self.own.need(length).min(most))
-    }
-
-    fn back(&self, slots: u32) -> u32 {
-        self.below.back(slots)
-    }
-
-    fn grant(&mut self, level: u64) -> Result<(), Fault> {
-        self.admit(level)?;
-        self.below.grant(level)
+        let own = needs_over(&below, needs);
+        Over::lay(below, own)
     }
 }

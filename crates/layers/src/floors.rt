@@ -1,86 +1,60 @@
 // The floor: every slot of a window is owed at least so much.
-ghost use Rattle.std.specs.Prelude.{◌≡◌, IfOk, IfErr, MatchResult};
+ghost use Rattle.std.specs.Prelude.{◌≡◌, IfOk, IfErr, MatchResult, nat_lt, None};
+ghost use Rattle.contract.specs.Faults.{contract_fault, refusal, refuse_if};
 ghost use Rattle.contract.specs.Meaning.{New};
 ghost use Rattle.layers.specs.Layers.{Answers, FloorFault, floored, floor_refusal, floor_need};
 ghost use Rattle.layers.specs.Laid.{floor_most};
-ghost use Rattle.layers.specs.Layering.{limits_layered};
 
-use crate::over::{Returned, recalls_under_cap};
+use crate::over::{Over, Returned};
+use crate::own::OwnNeeds;
 use contract::{Contract, Fault};
 
-// A clause learns the value of a constant of the module, and not of one of a generic block.
-const FLOOR_LETTER: char = 'F';
-
-#[derive(Drop)]
-pub struct Floor<C> {
-    below: C,
-    floor: u32,
+// So much energy for each slot, and never more than the cap.
+#[derive(Clone, Copy)]
+pub struct EachSlot {
+    energy: u32,
 }
 
-impl<C: Contract> Floor<C> {
-    // Refuses a floor above the cap, and a contract that recalls a level under it.
-    pub fn new(below: C, floor: u64) -> Result<Floor<C>, Returned<C>>
-        ensures answer { Answers result (floor_refusal (C.meaning below) floor) }
-        ensures fault { IfErr result (λ e. FloorFault e.fault) }
-        ensures made { MatchResult result (λ s. (s.below ≡ below) × (s.floor ≡ floor)) (λ e. e.contract ≡ below) }
-        ensures begun { IfOk result (λ s. New (floored (C.meaning s.below) s.floor)) }
+pub type Floor<C> = Over<C, EachSlot>;
+
+impl EachSlot {
+    fn new(cap: u32, energy: u64) -> Result<EachSlot, Fault>
+        ensures answer { refusal result ≡ refuse_if (nat_lt «cap» energy) (contract_fault 5 0) None }
+        ensures fault { IfErr result FloorFault }
+        ensures made { IfOk result (λ s. s.energy ≡ energy) }
     {
-        if floor > below.cap() as u64 {
-            return Err(Returned {
-                fault: Fault::Floor,
-                contract: below,
-            });
+        if energy > u64::from(cap) {
+            return Err(Fault::Floor);
         }
-        if recalls_under_cap(&below) {
-            return Err(Returned {
-                fault: Fault::NotNew,
-                contract: below,
-            });
-        }
-        Ok(Floor {
-            below,
-            floor: floor as u32,
+        Ok(EachSlot {
+            energy: energy as u32,
         })
     }
 }
 
-impl<C: Contract> Contract for Floor<C> {
-    const LETTER: char = FLOOR_LETTER;
+impl OwnNeeds for EachSlot {
+    const LETTER: char = 'F';
 
-    ghost mark = { 70 };
+    ghost LETTER = { 70 };
 
-    ghost meaning = { λ s. floored (C.Contract.meaning s.below) s.floor };
+    ghost own = { λ s top k. floor_need top s.energy k };
 
-    ghost limits = { λ s.
-        let m = C.Contract.meaning s.below in
-        limits_layered m (floor_need m.«cap» s.floor) (C.Contract.limits s.below) (λ k low high. floor_most m.«cap» s.floor k) };
+    ghost most = { λ s top k. floor_most top s.energy k };
 
-    fn kind(&self) -> char {
-        FLOOR_LETTER
+    fn own_need(&self, cap: u32, length: u32) -> u64 {
+        u64::from(length) * u64::from(self.energy.min(cap))
     }
+}
 
-    fn cap(&self) -> u32 {
-        self.below.cap()
-    }
-
-    fn memory(&self) -> u32 {
-        self.below.memory()
-    }
-
-    fn need(&self, length: u32) -> u32 {
-        if length > self.below.memory() {
-            return 0;
-        }
-        let each = self.floor.min(self.below.cap());
-        self.below.need(length).max(length * each)
-    }
-
-    fn back(&self, slots: u32) -> u32 {
-        self.below.back(slots)
-    }
-
-    fn grant(&mut self, level: u64) -> Result<(), Fault> {
-        self.admit(level)?;
-        self.below.grant(level)
+impl<C: Contract> Over<C, EachSlot> {
+    // Refuses a floor above the cap, and a contract that recalls a level under it.
+    pub fn new(below: C, floor: u64) -> Result<Floor<C>, Returned<C>>
+        ensures answer { Answers result (floor_refusal (C.meaning below) floor) }
+        ensures fault { IfErr result (λ e. FloorFault e.fault) }
+        ensures made { MatchResult result (λ s. (s.below ≡ below) × (s.own.energy ≡ floor)) (λ e. e.contract ≡ below) }
+        ensures begun { IfOk result (λ s. New (floored (C.meaning s.below) s.own.energy)) }
+    {
+        let own = EachSlot::new(below.cap(), floor);
+        Over::lay(below, own)
     }
 }

@@ -4,7 +4,9 @@
 mod extras;
 mod floors;
 mod over;
+mod own;
 
 pub use extras::Extra;
-pub use floors::Floor;
-pub use over::Returned;
+pub use floors::{EachSlot, Floor};
+pub use over::{Over, Returned};
+pub use own::OwnNeeds;

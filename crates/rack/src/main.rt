@@ -1,65 +1,23 @@
 // A dispatcher's evening: requested levels come in, one to a line, and the rack says what it grants.
 #![tactic(auto)]
 
-use anyhow::anyhow;
-use evening::{Evening, Terms, number_of, opening};
-use std::env;
-use std::io::{BufRead, BufReader};
+use desk::{answer_lines, exit_code, read_terms};
+use evening::{Evening, opening};
 use std::process::ExitCode;
-
-const USAGE: &str = "usage: rack [CAP MEMORY ALLOWANCE FLOOR]";
-
-// Four words of the command line, or else the terms of the sample evening.
-fn read_terms(rt: &HostRuntime) -> anyhow::Result<Terms> {
-    let mut numbers = [100, 4, 80, 20];
-    let mut given = 0;
-    for word in env::args(rt)?.skip(1) {
-        if given >= 4 {
-            return Err(anyhow!("{USAGE}"));
-        }
-        let Ok(number) = number_of(word.as_bytes()) else {
-            return Err(anyhow!("{USAGE}"));
-        };
-        numbers[given] = number;
-        given += 1;
-    }
-    if given != 0 && given != 4 {
-        return Err(anyhow!("{USAGE}"));
-    }
-    let [cap, memory, allowance, floor] = numbers;
-    Ok(Terms {
-        cap,
-        memory,
-        allowance,
-        floor,
-    })
-}
 
 fn run(rt: &HostRuntime) -> anyhow::Result<()> {
     let contract = read_terms(rt)?.agree()?;
     rt.println(opening(&contract))?;
     let mut evening = Evening::new(contract);
-    let mut input = BufReader::new(rt.alloc(), rt.stdin())?;
-    let mut line = Vec::new(rt.alloc());
-    // Nothing says that an input ends, so the lines are counted.
-    for count in 1..u64::MAX {
-        line.clear();
-        if input.read_until(b'\n', &mut line)? == 0 {
-            break;
-        }
-        rt.println(evening.answer(count, &line))?;
-    }
+    answer_lines(
+        rt,
+        rt.stdin(),
+        |count, line| Ok(evening.answer(count, line)),
+    )?;
     rt.println(evening.end())?;
     Ok(())
 }
 
 fn main(rt: HostRuntime) -> ExitCode {
-    match run(&rt) {
-        Ok(()) => ExitCode::SUCCESS,
-        Err(error) => {
-            // Where not even this can be told, the status still tells.
-            let _told = eprintln!(rt; "rack: {error}");
-            ExitCode::FAILURE
-        }
-    }
+    exit_code(&rt, run(&rt))
 }

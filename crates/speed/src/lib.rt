@@ -45,16 +45,8 @@ pub extern "C" fn guldoper_forecast(
     ensures energy { result ≡ cond (plan_refused (terms «cap» memory allowance floor) level slots (length list.old)) 0 (forecast_energy (granted (agreed (terms «cap» memory allowance floor)) level) slots) }
     ensures after { list.new ≡ cond (plan_refused (terms «cap» memory allowance floor) level slots (length list.old)) list.old (list_after (granted (agreed (terms «cap» memory allowance floor)) level) slots list.old) }
 {
-    let terms = Terms {
-        cap,
-        memory,
-        allowance,
-        floor,
-    };
-    match plan(terms, level, slots, list) {
-        Some(energy) => energy,
-        None => 0,
-    }
+    let terms = Terms::from([cap, memory, allowance, floor]);
+    plan(terms, level, slots, list).unwrap_or(0)
 }
 
 // The least margin of a record; 0 where it has none, and after a refusal.
@@ -68,12 +60,8 @@ pub extern "C" fn guldoper_margin(
 ) -> i32
     ensures { LeastMargin (audit_refused (terms «cap» memory allowance floor) «record».now) (agreed (terms «cap» memory allowance floor)) «record».now result }
 {
-    let terms = Terms {
-        cap,
-        memory,
-        allowance,
-        floor,
-    };
+    let terms = Terms::from([cap, memory, allowance, floor]);
+    // Zero for none: the caller in C has no `Option`.
     match audit(terms, record) {
         Some(Verdict::Kept(Some(tightest))) => tightest.margin,
         Some(Verdict::Broken(tightest)) => tightest.margin,

@@ -1,13 +1,11 @@
 -- A forecast one slot longer, and what it leaves in the caller's list.
-use Rattle.std.proofs.Common.{◌≡◌, ℕ, zero, suc, ◌+◌, ◌<◌, ◌≤◌, ◌⊎◌, List, [], ◌∷◌, ◌++◌, length, get_or, take, drop, set, Some, None, sum, Option, sym, refl, ap, ◌∙◌, inl, inr, add-one, arith}
-use lib.Seq.{take-append_seam, drop-append_seam}
-use Rattle.std.proofs.lemmas.List.{append_assoc, set_at, drop_more}
+use Rattle.std.proofs.Common.{◌≡◌, ℕ, zero, suc, ◌+◌, ◌<◌, ◌≤◌, List, [], ◌∷◌, ◌++◌, length, get_or, take, drop, set, None, sum, Option, sym, refl, ap, ◌∙◌, add-one, arith}
+use Rattle.std.proofs.lemmas.List.{append_assoc, append-nil, take_at, drop_at, set_at, drop_more, drop_all, length-append, length-drop}
 use Rattle.std.proofs.lemmas.List.Sums.{sum_by_push}
 use Rattle.std.proofs.lemmas.Bool.Decides.{nat_tests}
 use Rattle.windows.specs.declared.refusals.ListFault.{ListFault}
-use Rattle.windows.specs.declared.refusals.ListFault.TheVariants.{TooFar}
 use Rattle.contract.specs.Meaning.{Meaning, lowest, granted}
-use Rattle.windows.specs.Refusals.{unless_fault}
+use Rattle.contract.specs.Faults.{unless_refused}
 use Rattle.windows.specs.Forecasts.{forecast_levels, forecast_energy, forecast_refusal, list_after}
 
 -- the contract after n of its lowest levels
@@ -40,41 +38,35 @@ module _ (m : Meaning) where
   energy_more n = ap sum (levels_more n) ∙ sum_by_push (λ x. x) (forecast_levels m n) (lowest (ahead m n))
 
   -- the next level is written behind the others
-  pub write_more : (xs : List ℕ) (n : ℕ) → n < length xs → set (forecast_levels m n ++ drop n xs) n (lowest (ahead m n)) ≡ forecast_levels m (n + 1) ++ drop (n + 1) xs
-  write_more xs n h =
-      let x = lowest (ahead m n) in
+  pub write_more : (xs items : List ℕ) (n x : ℕ) → items ≡ forecast_levels m n ++ drop n xs → x ≡ lowest (ahead m n) → n < length items →
+      set items n x ≡ forecast_levels m (n + 1) ++ drop (n + 1) xs
+  write_more xs items n x are is h =
       let done = forecast_levels m n in
-      ap (λ (t : List ℕ). set (done ++ t) n x) (drop_more xs n 0 h)
+      let within : n < length xs = omega (arith, ap (λ (t : List ℕ). length t) are, length-append {A = ℕ} done (drop n xs), length-drop {A = ℕ} n xs, levels_count n m) in
+      ap (λ (t : List ℕ). set t n x) are
+      ∙ ap (λ (t : List ℕ). set (done ++ t) n x) (drop_more xs n 0 within)
       ∙ set_at done (get_or xs n 0) (drop (n + 1) xs) x n (levels_count n m)
-      ∙ sym (append_assoc done (x ∷ []) (drop (n + 1) xs))
+      ∙ ap (λ (t : ℕ). done ++ (t ∷ drop (n + 1) xs)) is
+      ∙ sym (append_assoc done (lowest (ahead m n) ∷ []) (drop (n + 1) xs))
       ∙ ap (λ (t : List ℕ). t ++ drop (n + 1) xs) (sym (levels_more n))
 
-  -- the first n places, and the others
-  front_is : (n : ℕ) (rest : List ℕ) → take n (forecast_levels m n ++ rest) ≡ forecast_levels m n
-  front_is n rest =
-      ap (λ (k : ℕ). take k (forecast_levels m n ++ rest)) (sym (levels_count n m)) ∙ take-append_seam (forecast_levels m n) rest
-
-  others_are : (n : ℕ) (rest : List ℕ) → drop n (forecast_levels m n ++ rest) ≡ rest
-  others_are n rest =
-      ap (λ (k : ℕ). drop k (forecast_levels m n ++ rest)) (sym (levels_count n m)) ∙ drop-append_seam (forecast_levels m n) rest
+  -- all n are written
+  pub write_all : (xs items : List ℕ) (n i : ℕ) → items ≡ forecast_levels m i ++ drop i xs → i ≡ n → length xs ≤ n → items ≡ forecast_levels m n
+  write_all xs items n i are done few =
+      are
+      ∙ ap (λ (t : ℕ). forecast_levels m t ++ drop t xs) done
+      ∙ ap (λ (t : List ℕ). forecast_levels m n ++ t) (drop_all n xs few)
+      ∙ append-nil (forecast_levels m n)
 
 pub forecast_taken : (n places : ℕ) → n ≤ 192 → n ≤ places → forecast_refusal n places ≡ None
 forecast_taken n places few fits = grind (arith, nat_tests)
 
-pub forecast_refused : (n places : ℕ) → (192 < n) ⊎ ((n ≤ 192) × (places < n)) → forecast_refusal n places ≡ Some TooFar
-forecast_refused n places (inl far) = grind (arith, nat_tests)
-forecast_refused n places (inr short) = grind (arith, nat_tests)
-
--- a refused forecast leaves the list as it was
-pub list_left : (m : Meaning) (n : ℕ) (xs : List ℕ) (c : ListFault) → forecast_refusal n (length xs) ≡ Some c → list_after m n xs ≡ xs
-list_left m n xs c e = ap (λ (o : Option ListFault). unless_fault o xs (forecast_levels m n ++ drop n xs)) e
-
 module _ (m : Meaning) (n : ℕ) (xs : List ℕ) (few : n ≤ 192) (fits : n ≤ length xs) where
   pub list_is : list_after m n xs ≡ forecast_levels m n ++ drop n xs
-  list_is = ap (λ (o : Option ListFault). unless_fault o xs (forecast_levels m n ++ drop n xs)) (forecast_taken n (length xs) few fits)
+  list_is = ap (λ (o : Option ListFault). unless_refused o xs (forecast_levels m n ++ drop n xs)) (forecast_taken n (length xs) few fits)
 
   pub written_is : take n (list_after m n xs) ≡ forecast_levels m n
-  written_is = ap (take n) list_is ∙ front_is m n (drop n xs)
+  written_is = ap (take n) list_is ∙ take_at (forecast_levels m n) (drop n xs) n (levels_count n m)
 
   pub others_kept : drop n (list_after m n xs) ≡ drop n xs
-  others_kept = ap (drop n) list_is ∙ others_are m n (drop n xs)
+  others_kept = ap (drop n) list_is ∙ drop_at (forecast_levels m n) (drop n xs) n (levels_count n m)

@@ -1,40 +1,47 @@
 -- The best way to cut a length, by the curve at every shorter one.
-use Rattle.std.proofs.Common.{◌≡◌, ℕ, zero, suc, ◌+◌, ◌-◌, ◌*◌, ◌<◌, ◌≤◌, max, ◌≢◌, List, [], ◌∷◌, ◌++◌, reverse, length, get_or, take, set, sym, refl, ap, ◌∙◌, ⊎_elim, mul-le-mul, add-one, arith, below_more}
-use Rattle.std.proofs.lemmas.List.{take_more, reverse-append, get_or-set_same, get_or-set_other, get_or_append_left, get_or-reverse, get_or_push, get_or-take, get_or_past, length-reverse, length_push, length-take}
-use Rattle.std.proofs.lemmas.Bool.{cases_lt}
+use Rattle.std.proofs.Common.{◌≡◌, ℕ, zero, suc, ◌+◌, ◌*◌, ◌<◌, ◌≤◌, max, ◌≢◌, ◌⊎◌, List, [], ◌∷◌, ◌++◌, reverse, length, get_or, take, set, sym, refl, ap, ◌∙◌, inl, inr, mul-le-mul, add-one, arith, below_more}
+use Rattle.std.proofs.lemmas.List.{take_more, reverse-append, get_or-set_same, get_or-set_other, get_or-take, length-take, length-reverse}
+use Rattle.std.proofs.lemmas.List.Elements.{All-from_get_or}
+use Rattle.windows.specs.Curves.{InRange}
 use Rattle.contract.specs.Meaning.{Meaning, Limits}
 use Rattle.curve.specs.Curve.{best, curves, curve}
 use Rattle.curve.proofs.Windows.{energy_past}
 use Rattle.curve.proofs.Kept.{kept_curve}
 
--- one more part to begin with
-pub best_more : (ns cs : List ℕ) (k : ℕ) → k < length ns → k < length cs → best (take (k + 1) ns) cs ≡ max (best (take k ns) cs) (get_or ns k 0 + get_or cs k 0)
-best_more ns cs k hn hc = ap (λ (t : ℕ). best (take t ns) cs) (add-one k) ∙ more ns cs k hn hc
-  where
-    more : (ns cs : List ℕ) (k : ℕ) → k < length ns → k < length cs → best (take (suc k) ns) cs ≡ max (best (take k ns) cs) (get_or ns k 0 + get_or cs k 0)
-    more [] cs k hn hc = absurd (omega arith)
-    more (n ∷ ns) [] k hn hc = absurd (omega arith)
-    more (n ∷ ns) (c ∷ cs) zero hn hc = omega arith
-    more (n ∷ ns) (c ∷ cs) (suc k) hn hc = omega (arith, more ns cs k (omega arith) (omega arith))
+none : (ns : List ℕ) → best ns [] ≡ 0
+none [] = refl
+none (n ∷ ns) = refl
 
--- parts longer than the whole do not count
-pub best_whole : (ns cs : List ℕ) (k j : ℕ) → length cs ≤ k → k ≤ j → best (take k ns) cs ≡ best (take j ns) cs
-best_whole ns [] k j h l = none (take k ns) ∙ sym (none (take j ns))
+whole_part : (ns cs : List ℕ) → max (get_or ns (length cs) 0) (best ns cs) ≡ best ns (cs ++ (0 ∷ []))
+whole_part [] cs = refl
+whole_part (n ∷ ns) [] = omega (arith, none ns)
+whole_part (n ∷ ns) (c ∷ cs) = omega (arith, whole_part ns cs)
+
+-- the whole as one part leaves nothing; the other cuts are still to be looked at
+pub best_none : (ns cs rest before : List ℕ) (most : ℕ) → rest ≡ ns → before ≡ cs → most ≡ get_or ns (length cs) 0 → max most (best rest (reverse before)) ≡ best ns (reverse cs ++ (0 ∷ []))
+best_none ns cs rest before most p q e =
+    let same : best rest (reverse before) ≡ best ns (reverse cs) = ap (λ (t : List ℕ). best t (reverse before)) p ∙ ap (λ (t : List ℕ). best ns (reverse t)) q in
+    let long : get_or ns (length (reverse cs)) 0 ≡ get_or ns (length cs) 0 = ap (λ (t : ℕ). get_or ns t 0) (length-reverse cs) in
+    omega (arith, same, long, e, whole_part ns (reverse cs))
+
+-- one more part is looked at: the front of what is left, and the last of what stands before it
+pub best_more : (ns cs rest before : List ℕ) (n c most now all : ℕ) → ns ≡ n ∷ rest → cs ≡ before ++ (c ∷ []) → now ≡ max most (n + c) → max most (best ns (reverse cs)) ≡ all → max now (best rest (reverse before)) ≡ all
+best_more ns cs rest before n c most now all p q is e =
+    let front : best ns (reverse cs) ≡ max (n + c) (best rest (reverse before)) =
+    ap (λ (t : List ℕ). best t (reverse cs)) p ∙ ap (λ (t : List ℕ). best (n ∷ rest) (reverse t)) q ∙ ap (best (n ∷ rest)) (reverse-append before (c ∷ [])) in
+    omega (arith, is, e, front)
+
+pub best_all : (ns cs : List ℕ) (most all : ℕ) → (length ns ≡ 0) ⊎ (length cs ≡ 0) → max most (best ns (reverse cs)) ≡ all → most ≡ all
+best_all ns cs most all done e = omega (arith, e, left ns cs done)
   where
-    none : (xs : List ℕ) → best xs [] ≡ 0
-    none [] = refl
-    none (x ∷ xs) = refl
-best_whole [] (c ∷ cs) k j h l = ap (λ (xs : List ℕ). best xs (c ∷ cs)) (empty k ∙ sym (empty j))
-  where
-    empty : (i : ℕ) → ◌≡◌ {A = List ℕ} (take i []) []
-    empty zero = refl
-    empty (suc i) = refl
-best_whole (n ∷ ns) (c ∷ cs) zero j h l = absurd (omega arith)
-best_whole (n ∷ ns) (c ∷ cs) (suc k) zero h l = absurd (omega arith)
-best_whole (n ∷ ns) (c ∷ cs) (suc k) (suc j) h l = ap (λ (t : ℕ). max (n + c) t) (best_whole ns cs k j (omega arith) (omega arith))
+    left : (ns cs : List ℕ) → (length ns ≡ 0) ⊎ (length cs ≡ 0) → best ns (reverse cs) ≡ 0
+    left [] cs done = refl
+    left (n ∷ ns) [] done = refl
+    left (n ∷ ns) (c ∷ cs) (inl e) = absurd (omega arith)
+    left (n ∷ ns) (c ∷ cs) (inr e) = absurd (omega arith)
 
 -- the curve at every shorter length, longest first, is what was written so far, and 0 at length 0
-pub curves_written : (m : Meaning) (xs : List ℕ) (i : ℕ) → i ≤ length xs → ((k : ℕ) → k < i → get_or xs k 0 ≡ curve m (suc k)) → reverse (take i xs) ++ (0 ∷ []) ≡ curves m i
+curves_written : (m : Meaning) (xs : List ℕ) (i : ℕ) → i ≤ length xs → ((k : ℕ) → k < i → get_or xs k 0 ≡ curve m (suc k)) → reverse (take i xs) ++ (0 ∷ []) ≡ curves m i
 curves_written m xs zero h same = refl
 curves_written m xs (suc i) h same =
     ap (λ (t : ℕ). reverse (take t xs) ++ (0 ∷ [])) (sym (add-one i))
@@ -52,34 +59,21 @@ curve_limit m s L h =
     let p : L * m.«cap» ≤ 65535 * 20000 = mul-le-mul h s.cap_most in
     omega (arith, p, curve_most m s L)
 
--- what stands at a place of the shorter lengths
-pub shorter_at : (xs : List ℕ) (k : ℕ) → k < length xs → get_or (reverse xs ++ (0 ∷ [])) k 0 ≡ get_or xs (length xs - 1 - k) 0
-shorter_at xs k h = get_or_append_left (reverse xs) (0 ∷ []) 0 k (omega (arith, length-reverse xs)) ∙ get_or-reverse xs k 0 h
-
-pub shortest_at : (xs : List ℕ) → get_or (reverse xs ++ (0 ∷ [])) (length xs) 0 ≡ 0
-shortest_at xs = get_or_push (reverse xs) 0 0 (length xs) (length-reverse xs)
-
-pub shorter_length : (xs : List ℕ) → length (reverse xs ++ (0 ∷ [])) ≡ length xs + 1
-shorter_length xs = length_push (reverse xs) 0 ∙ ap (λ (t : ℕ). t + 1) (length-reverse xs)
-
 module _ (m : Meaning) (s : Limits m) (xs : List ℕ) (i : ℕ) (same : (k : ℕ) → k < i → get_or xs k 0 ≡ curve m (suc k)) where
   -- what was written so far is in range
-  pub written_low : i ≤ 65535 → (k : ℕ) → get_or (take (i - 0) xs) k 0 ≤ 1310700000
-  written_low few k =
-      let e : i - 0 ≡ i = omega arith in
-      rw e (⊎_elim
-      (λ (h : k < i). omega (arith, get_or-take i xs k 0 h, same k h, curve_limit m s (suc k) (omega arith)))
-      (λ (h : i ≤ k). omega (arith, get_or_past (take i xs) k 0 (simp length-take (omega arith))))
-      (cases_lt k i))
+  pub written_low : i ≤ 65535 → InRange (take i xs)
+  written_low few =
+      All-from_get_or (λ (e : ℕ). e ≤ 1310700000) (take i xs) 0
+      (λ k (h : k < length (take i xs)).
+      let within : k < i = omega (arith, length-take {A = ℕ} i xs) in
+      omega (arith, get_or-take {A = ℕ} i xs k 0 within, same k within, curve_limit m s (suc k) (omega arith)))
 
   -- the next entry is the curve at the next length
-  pub written_more : (ns : List ℕ) (r : ℕ) → i < length xs → ns ≡ m.needs → r ≡ best ns (reverse (take (i - 0) xs) ++ (0 ∷ [])) →
+  pub written_more : (ns : List ℕ) (r : ℕ) → i < length xs → ns ≡ m.needs → r ≡ best ns (reverse (take i xs) ++ (0 ∷ [])) →
       (k : ℕ) → k < i + 1 → get_or (set xs i r) k 0 ≡ curve m (suc k)
   written_more ns r h read is =
-      let e : i - 0 ≡ i = omega arith in
       let next : r ≡ curve m (suc i) =
       is
-      ∙ ap (λ (t : ℕ). best ns (reverse (take t xs) ++ (0 ∷ []))) e
       ∙ ap (best ns) (curves_written m xs i (omega arith) same)
       ∙ ap (λ (l : List ℕ). best l (curves m i)) read in
       below_more (λ k. get_or (set xs i r) k 0 ≡ curve m (suc k)) i

@@ -1,10 +1,8 @@
-pub mod Scans
+pub mod Firsts
 pub mod Reading
 pub mod Sliding
-pub mod Orders
 pub mod Margins
 pub mod Bests
-pub mod Unique
 pub mod Ahead
 pub mod Least
 pub mod Foreseen

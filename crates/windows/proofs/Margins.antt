@@ -1,45 +1,48 @@
 -- The least of some margins, and the tightest window one slot on.
-use Rattle.std.proofs.Common.{◌≡◌, ℕ, suc, ◌+◌, ◌-◌, ◌<◌, ◌≤◌, max, Bool, true, false, ltb, ◌↔◌, List, [], ◌∷◌, reverse, length, get_or, take, ℤ, pos, ◌-ℤ◌, ◌≤ℤ◌, ◌<ℤ◌, Some, None, Option, sym, refl, ap, ◌∙◌, subst, inl, inr, ⊎_elim, arith}
+use Rattle.std.proofs.Common.{◌≡◌, ℕ, suc, ◌+◌, ◌-◌, ◌<◌, ◌≤◌, max, Bool, true, false, ltb, ◌↔◌, List, [], ◌∷◌, reverse, length, get_or, take, ℤ, pos, ◌-ℤ◌, ◌≤ℤ◌, ◌<ℤ◌, Some, None, Option, sym, refl, ap, ◌∙◌, subst, inl, inr, ⊎_elim, arith, w32, to_z, of_z}
 use Rattle.std.specs.Int.{int_min, int_max}
-use Rattle.std.proofs.lemmas.Int.{ints, clamps}
+use Rattle.std.specs.Int.Signed.{mag, <ℤ-≤ℤ_trans}
+use Rattle.std.proofs.lemmas.Int.{ints, clamps, by_lt_z, to_z-of_z}
 use Rattle.std.proofs.lemmas.Bool.{cases_lt, ltb-true, ltb-false, le-ltb}
 use Rattle.contract.specs.Meaning.{Meaning, Limits, memory, need}
 use Rattle.windows.specs.declared.refusals.ListFault.{ListFault}
 use Rattle.windows.specs.declared.refusals.ListFault.TheVariants.{AboveCap, TooLong}
-use Rattle.windows.specs.Refusals.{fault_if, or_fault}
-use Rattle.windows.proofs.Scans.{each_below}
+use Rattle.contract.specs.Faults.{refuse_if, or_else}
+use Rattle.contract.proofs.Scans.{each_passes}
 use Rattle.curve.specs.Curve.{Each}
 use Rattle.curve.specs.Lawful.{energy, Lawful}
 use Rattle.windows.proofs.Records.{holds_lawful, lawful_holds}
-use Rattle.windows.proofs.Orders.{lt_le, lt_le_trans, le_trans, le_both, min_left, min_right, min_attained}
-use Rattle.windows.specs.Sums.{Copies, Ending, margin_at}
+use Rattle.windows.specs.Sums.{Ending, margin_at}
 use Rattle.windows.specs.Verdicts.{margin, IsTightest, Tells, IsKept, NotNegative, Judges, first_above, verdict_refusal}
 use Rattle.windows.specs.Judging.{TightestHere, Chosen, Decided}
-use Rattle.windows.specs.declared.conditions.Conditions.{Conditions}
 use Rattle.windows.specs.declared.verdicts.Tightest.{Tightest}
 use Rattle.windows.specs.declared.verdicts.Verdict.{Verdict}
+
+-- an integer that fits, through its bits and back
+pub through : (z : ℤ) → mag z < 2147483648 → to_z w32 (of_z w32 z) ≡ z
+through z h = to_z-of_z w32 z (record { sfits = h })
 
 -- one more margin
 module _ (f : ℕ → ℤ) (n k : ℕ) (z y : ℤ) (e : y ≡ int_min z (f k)) where
   pub bound_more : ((j : ℕ) → j < k → z ≤ℤ f j) → (j : ℕ) → j < k + 1 → y ≤ℤ f j
   bound_more bound j h =
-      subst (λ t. t ≤ℤ f j) (sym e)
-      (⊎_elim
-      (λ (l : j < k). le_trans (int_min z (f k)) z (f j) (min_left z (f k)) (bound j l))
-      (λ (l : k ≤ j). let d : k ≡ j = omega arith in subst (λ t. int_min z (f k) ≤ℤ f t) d (min_right z (f k)))
-      (cases_lt j k))
+      ⊎_elim
+      (λ (l : j < k). omega (arith, ints, clamps, e, bound j l))
+      (λ (l : k ≤ j). let d : k ≡ j = omega arith in subst (λ t. y ≤ℤ f t) d (omega (arith, ints, clamps, e)))
+      (cases_lt j k)
 
   pub attained_more : k < n → (j : ℕ) × (j < n) × (f j ≤ℤ z) → (j : ℕ) × (j < n) × (f j ≤ℤ y)
   attained_more h old =
-      subst (λ t. (j : ℕ) × (j < n) × (f j ≤ℤ t)) (sym e)
-      (⊎_elim (λ stays. (old.0, old.1, le_trans (f old.0) z (int_min z (f k)) old.2 stays)) (λ comes. (k, h, comes)) (min_attained z (f k)))
+      by_lt_z (f k) z
+      (λ less. (k, h, omega (arith, ints, clamps, e)))
+      (λ more. (old.0, old.1, omega (arith, ints, clamps, e, old.2)))
 
 -- the margins of the windows that end in one slot, by the sums and the needs that were read
-pub margin_read : (m : Meaning) (xs : List ℕ) (e : ℕ) (c : Conditions) (sums : List ℕ) → Copies m c → Ending m (reverse (take e xs)) sums →
-    (k : ℕ) → k < memory m → margin_at c.needs sums k ≡ margin m xs e (suc k)
-margin_read m xs e c sums copies ending k h =
-    ap (λ (t : ℕ). pos t -ℤ pos (get_or c.needs k 0)) (ending k h)
-    ∙ ap (λ (t : ℕ). pos (energy m.«cap» (reverse (take e xs)) (suc k)) -ℤ pos t) (copies.2 k h)
+pub margin_read : (m : Meaning) (xs : List ℕ) (e : ℕ) (needs sums : List ℕ) → needs ≡ m.needs → Ending m (reverse (take e xs)) sums →
+    (k : ℕ) → k < memory m → margin_at needs sums k ≡ margin m xs e (suc k)
+margin_read m xs e needs sums read ending k h =
+    ap (λ (t : ℕ). pos t -ℤ pos (get_or needs k 0)) (ending k h)
+    ∙ ap (λ (ns : List ℕ). pos (energy m.«cap» (reverse (take e xs)) (suc k)) -ℤ pos (get_or ns k 0)) read
 
 -- one slot on: f has the margins of the windows that end there
 module _ (m : Meaning) (xs : List ℕ) (i n : ℕ) (f : ℕ → ℤ) (sized : n ≡ memory m) (same : (k : ℕ) → k < memory m → f k ≡ margin m xs (i + 1) (suc k)) where
@@ -76,14 +79,14 @@ module _ (m : Meaning) (xs : List ℕ) (i n : ℕ) (f : ℕ → ℤ) (sized : n 
       let long : t.length ≤ memory m = omega (arith, s.length.high) in
       let low = s.length.low in
       let value : t.margin ≡ margin m xs (i + 1) t.length =
-      le_both t.margin (f (t.length - 1)) (s.least.bound (t.length - 1) (omega (arith, low))) s.length.here ∙ at t.length low long in
+      omega (arith, ints, s.least.bound (t.length - 1) (omega (arith, low)), s.length.here, at t.length low long) in
       record {
         end_least = omega (arith, s.ends);
         end_most = omega (arith, s.ends);
         length_least = low;
         length_most = long;
         value = value ∙ ap (λ (e : ℕ). margin m xs e t.length) (sym s.ends);
-        least = reaches t.margin s.least.bound (λ e k a b c d. lt_le t.margin (margin m xs e k) (less e k a b c d));
+        least = reaches t.margin s.least.bound (λ e k a b c d. omega (arith, ints, less e k a b c d));
         earliest = λ e k a (b : e < t.end) c d. less e k a (omega (arith, s.ends)) c d;
         shortest = λ k a (b : k < t.length).
             let e : margin m xs (i + 1) k ≡ margin m xs t.end k = ap (λ (j : ℕ). margin m xs j k) (sym s.ends) in
@@ -94,7 +97,7 @@ module _ (m : Meaning) (xs : List ℕ) (i n : ℕ) (f : ℕ → ℤ) (sized : n 
   tightest_more old t tells (inl stays) = keeps t (subst (Tells m xs i) stays.0 tells) stays.1
   tightest_more None t tells (inr comes) = takes t comes.0 (λ e k a b c d. absurd (omega arith))
   tightest_more (Some o) t tells (inr comes) =
-      takes t comes.0 (λ e k a b c d. lt_le_trans t.margin o.margin (margin m xs e k) (comes.1 o refl) (tells.least e k a b c d))
+      takes t comes.0 (λ e k a b c d. <ℤ-≤ℤ_trans (comes.1 o refl) (tells.least e k a b c d))
 
 not_negative : (a b : ℕ) → b ≤ a → pos 0 ≤ℤ (pos a -ℤ pos b)
 not_negative a b h = omega (arith, ints)
@@ -114,7 +117,7 @@ kept_lawful m limits xs each (Some t) tells = (
 
 -- no level of the record is above the cap
 pub within_cap : (top : ℕ) (xs : List ℕ) → first_above top 1 xs ≡ None → (j : ℕ) → j < length xs → get_or xs j 0 ≤ top
-within_cap top xs none j h = ltb-false top (get_or xs j 0) (each_below top 1 xs none j h)
+within_cap top xs none j h = ltb-false top (get_or xs j 0) (each_passes (λ i x. ltb top x) AboveCap 1 xs none j h)
 
 pub each_within : (top : ℕ) (xs : List ℕ) → ((j : ℕ) → j < length xs → get_or xs j 0 ≤ top) → Each (λ y. y ≤ top) xs
 each_within top [] within = tt
@@ -124,15 +127,15 @@ each_within top (x ∷ xs) within = (within 0 (omega arith), each_within top xs 
 none_above : (top i : ℕ) (xs : List ℕ) → Each (λ y. y ≤ top) xs → first_above top i xs ≡ None
 none_above top i [] each = refl
 none_above top i (x ∷ xs) each =
-    ap (λ t. fault_if t (AboveCap i) (first_above top (i + 1) xs)) (le-ltb top x each.0) ∙ none_above top (i + 1) xs each.1
+    ap (λ t. refuse_if t (AboveCap i) (first_above top (i + 1) xs)) (le-ltb top x each.0) ∙ none_above top (i + 1) xs each.1
 
 pub only_too_long : (m : Meaning) (xs : List ℕ) (c : ListFault) → Each (λ y. y ≤ m.«cap») xs → verdict_refusal m xs ≡ Some c → (65535 < length xs) × (c ≡ TooLong)
 only_too_long m xs c each e =
-    by_length (ltb 65535 (length xs)) refl (sym (ap (λ o. or_fault o (fault_if (ltb 65535 (length xs)) TooLong None)) (none_above m.«cap» 1 xs each)) ∙ e)
+    by_length (ltb 65535 (length xs)) refl (sym (ap (λ o. or_else o (refuse_if (ltb 65535 (length xs)) TooLong None)) (none_above m.«cap» 1 xs each)) ∙ e)
   where
-    by_length : (b : Bool) → ltb 65535 (length xs) ≡ b → fault_if b TooLong None ≡ Some c → (65535 < length xs) × (c ≡ TooLong)
+    by_length : (b : Bool) → ltb 65535 (length xs) ≡ b → refuse_if b TooLong None ≡ Some c → (65535 < length xs) × (c ≡ TooLong)
     by_length true t d = (ltb-true 65535 (length xs) t, cc)
-    by_length false t d = let z : ◌≡◌ {A = ℕ} 0 1 = cc in absurd (omega arith)
+    by_length false t d = cc
 
 both : {P Q R : Type 0} → P ↔ Q → Q ↔ R → P ↔ R
 both p q = ((λ x. q.0 (p.0 x)), (λ z. p.1 (q.1 z)))

@@ -1,13 +1,13 @@
 -- Window sums, one slot on.
-use Rattle.std.proofs.Common.{◌≡◌, ℕ, zero, suc, ◌+◌, ◌-◌, ◌<◌, ◌≤◌, min, max, ◌≢◌, List, [], ◌∷◌, reverse, length, get_or, take, set, sum, sym, refl, ap, ◌∙◌, ⊎_elim, arith}
-use Rattle.std.proofs.lemmas.List.{take_more, take-take, reverse-append, get_or-set_same, get_or-set_other}
-use Rattle.std.proofs.lemmas.List.Sums.{sum_by-cons}
+use Rattle.std.proofs.Common.{◌≡◌, ℕ, zero, suc, ◌+◌, ◌-◌, ◌<◌, ◌≤◌, min, max, ◌≢◌, List, [], ◌∷◌, reverse, length, get_or, take, drop, set, sum, sym, refl, ap, ◌∙◌, subst, ⊎_elim, add-one, arith}
+use Rattle.std.proofs.lemmas.List.{take_more, take-take, reverse-append, length-take, length-drop, get_or-take, get_or-drop, get_or-set_same, get_or-set_other}
 use Rattle.std.proofs.lemmas.Bool.{cases_eq}
+use Rattle.std.proofs.lemmas.List.Sums.{sum_by-cons}
 use Rattle.contract.specs.Meaning.{Meaning, memory, greatest, newest, owed, lowest, granted}
 use Rattle.curve.specs.Lawful.{energy}
-use Rattle.windows.proofs.Ahead.{ahead}
 use Rattle.windows.specs.Sums.{Copies, Recent, Ending, Slid, owed_by}
-use Rattle.windows.specs.declared.conditions.Conditions.{Conditions}
+use Rattle.windows.specs.Windows.{Recalled, lengths}
+use Rattle.windows.specs.declared.sums.Windows.{Windows}
 
 -- the sum of the i newest levels written to its place
 pub newest-set : (m : Meaning) (xs : List ℕ) (i v : ℕ) → 1 ≤ i → i - 1 < length xs → ((k : ℕ) → suc k < i → get_or xs k 0 ≡ newest m (suc k)) → v ≡ newest m ((i + 1) - 1) →
@@ -26,7 +26,7 @@ newest-granted m x k h =
     ap sum (take-take (suc k) (memory m - 1) (x ∷ m.recall) (omega arith)) ∙ sum_by-cons (λ y. y) x (take k m.recall)
 
 -- sums of recalled levels slide with a grant
-pub recent_slid : (m : Meaning) (x : ℕ) (old new : List ℕ) → Slid x (memory m) old new → Recent m old → Recent (granted m x) new
+recent_slid : (m : Meaning) (x : ℕ) (old new : List ℕ) → Slid x (memory m) old new → Recent m old → Recent (granted m x) new
 recent_slid m x old new slid recent zero h = slid 0 (omega arith) ∙ sym (newest-granted m x 0 h)
 recent_slid m x old new slid recent (suc k) h =
     slid (suc k) (omega arith) ∙ ap (λ (t : ℕ). x + t) (recent k (omega arith)) ∙ sym (newest-granted m x (suc k) h)
@@ -47,28 +47,34 @@ greatest_same : (f h : ℕ → ℕ) (n : ℕ) → ((k : ℕ) → k < n → f (su
 greatest_same f h zero same = refl
 greatest_same f h (suc n) same = omega (arith, same n (omega arith), greatest_same f h n (λ k l. same k (omega arith)))
 
--- the lowest level by sums and needs that were read
-pub lowest_read : (m : Meaning) (c : Conditions) (sums : List ℕ) → Copies m c → Recent m sums → min c.«cap» (greatest (owed_by c.needs sums) c.memory) ≡ lowest m
-lowest_read m c sums copies recent =
-    let sized : greatest (owed_by c.needs sums) c.memory ≡ greatest (owed_by c.needs sums) (memory m) = ap (greatest (owed_by c.needs sums)) copies.1 in
-    omega (arith, sized, greatest_same (owed_by c.needs sums) (owed m) (memory m) same, copies.0)
+-- the lowest level by the conditions and the sums that were read
+pub lowest_read : (m : Meaning) (w : Windows) → Recalled m w → min w.conditions.«cap» (greatest (owed_by w.conditions.needs.items w.sums) (lengths w)) ≡ lowest m
+lowest_read m w r =
+    ap (λ (t : ℕ). min t (greatest (owed_by w.conditions.needs.items w.sums) (lengths w))) r.conditions.0
+    ∙ ap (λ (ns : List ℕ). min m.«cap» (greatest (owed_by ns w.sums) (length ns))) r.conditions.1
+    ∙ ap (min m.«cap») (greatest_same (owed_by m.needs w.sums) (owed m) (memory m) same)
   where
-    same : (k : ℕ) → k < memory m → owed_by c.needs sums (suc k) ≡ owed m (suc k)
-    same zero l = omega (arith, copies.2 0 l)
+    same : (k : ℕ) → k < memory m → owed_by m.needs w.sums (suc k) ≡ owed m (suc k)
+    same zero l = omega arith
     same (suc k) l =
         let d : suc (suc k) - 1 ≡ suc k = omega arith in
-        rw d (omega (arith, copies.2 (suc k) l, recent k l))
+        rw d (omega (arith, r.sums k l))
 
--- what is read stays as it is while levels are granted
-pub copies_ahead : (m : Meaning) (c : Conditions) → Copies m c → (n : ℕ) → Copies (ahead m n) c
-copies_ahead m c copies zero = copies
-copies_ahead m c copies (suc n) = copies_ahead m c copies n
+-- a grant of x leaves the windows that have slid by x
+pub recalled_slid : (m : Meaning) (x : ℕ) (old new : Windows) → new.conditions ≡ old.conditions → Slid x (lengths old) old.sums new.sums → Recalled m old → Recalled (granted m x) new
+recalled_slid m x old new kept slid r = record {
+  conditions = subst (Copies m) (sym kept) r.conditions;
+  sums = recent_slid m x old.sums new.sums (subst (λ (ns : List ℕ). Slid x (length ns) old.sums new.sums) r.conditions.1 slid) r.sums;
+}
 
 -- what one more length asks
-pub greatest_next : (needs sums : List ℕ) (k : ℕ) → 1 ≤ k → greatest (owed_by needs sums) (k + 1) ≡ max (greatest (owed_by needs sums) k) (get_or needs k 0 - get_or sums (k - 1) 0)
-greatest_next needs sums zero h = absurd (omega arith)
-greatest_next needs sums (suc j) h =
-    let e : suc j + 1 ≡ suc (suc j) = omega arith in
-    let d : suc (suc j) - 1 ≡ suc j = omega arith in
-    let b : suc j - 1 ≡ j = omega arith in
-    rw (e, d, b)
+pub greatest_next : (needs sums : List ℕ) (k : ℕ) → k < length (take (length needs - 1) (drop 1 needs)) →
+    greatest (owed_by needs sums) (k + 1 + 1) ≡ max (greatest (owed_by needs sums) (k + 1)) (get_or (take (length needs - 1) (drop 1 needs)) k 0 - get_or sums k 0)
+greatest_next needs sums k h =
+    let bound = simp (length-take, length-drop) at h in
+    let within : k < length needs - 1 = omega arith in
+    let e : k + 1 ≡ suc k = add-one k in
+    let e2 : suc k + 1 ≡ suc (suc k) = add-one (suc k) in
+    let d : suc (suc k) - 1 ≡ suc k = omega arith in
+    let o : 1 + k ≡ suc k = omega arith in
+    rw (get_or-take, get_or-drop, e, e2, d, o)

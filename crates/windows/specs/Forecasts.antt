@@ -3,7 +3,7 @@ use Rattle.std.specs.Prelude.{ℕ, zero, suc, ◌||◌, List, [], ◌∷◌, ◌
 use Rattle.windows.specs.declared.refusals.ListFault.{ListFault}
 use Rattle.windows.specs.declared.refusals.ListFault.TheVariants.{TooFar}
 use Rattle.contract.specs.Meaning.{Meaning, lowest, granted}
-use Rattle.windows.specs.Refusals.{fault_if, unless_fault}
+use Rattle.contract.specs.Faults.{refuse_if, unless_refused}
 
 -- the levels of the next n slots if each is granted the lowest
 abbrev pub forecast_levels : Meaning → ℕ → List ℕ
@@ -15,8 +15,8 @@ forecast_energy m n = sum (forecast_levels m n)
 
 -- a forecast of n slots into a list of so many places is refused over 192, and where the list is shorter
 abbrev pub forecast_refusal : ℕ → ℕ → Option ListFault
-forecast_refusal n places = fault_if (nat_lt 192 n || nat_lt places n) TooFar None
+forecast_refusal n places = refuse_if (nat_lt 192 n || nat_lt places n) TooFar None
 
 -- what the caller's list holds after a forecast of n slots: the levels in its first n places, and the rest as it was
 abbrev pub list_after : Meaning → ℕ → List ℕ → List ℕ
-list_after m n xs = unless_fault (forecast_refusal n (length xs)) xs (forecast_levels m n ++ drop n xs)
+list_after m n xs = unless_refused (forecast_refusal n (length xs)) xs (forecast_levels m n ++ drop n xs)

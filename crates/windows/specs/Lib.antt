@@ -1,5 +1,6 @@
 pub mod Refusals
 pub mod Sums
+pub mod Windows
 pub mod Forecasts
 pub mod Planned
 pub mod Verdicts

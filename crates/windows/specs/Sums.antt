@@ -4,9 +4,9 @@ use Rattle.contract.specs.Meaning.{Meaning, memory, newest}
 use Rattle.curve.specs.Lawful.{energy}
 use Rattle.windows.specs.declared.conditions.Conditions.{Conditions}
 
--- what was read of a contract is its cap, its memory and its needs
+-- what was read of a contract is its cap and its needs
 abbrev pub Copies : Meaning → Conditions → Type 0
-Copies m c = (c.«cap» ≡ m.«cap») × (c.memory ≡ memory m) × ((k : ℕ) → k < memory m → slice_index c.needs k ≡ slice_index m.needs k)
+Copies m c = (c.«cap» ≡ m.«cap») × (c.needs.items ≡ m.needs)
 
 -- no slot of a window has more than the greatest cap
 abbrev pub Low : List ℕ → Type 0

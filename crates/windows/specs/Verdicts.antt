@@ -1,9 +1,10 @@
 -- Verdicts: the least margin of a record that is begun on a new contract.
-use Rattle.std.specs.Prelude.{◌≡◌, ℕ, ◌<◌, ◌≤◌, ◌+◌, ◌∷◌, ◌↔◌, List, [], reverse, length, take, ℤ, pos, ◌-ℤ◌, ◌≤ℤ◌, ◌<ℤ◌, Some, None, Option, nat_lt}
+use Rattle.std.specs.Prelude.{◌≡◌, ℕ, ◌<◌, ◌≤◌, ◌↔◌, List, [], reverse, length, take, ℤ, pos, ◌-ℤ◌, ◌≤ℤ◌, ◌<ℤ◌, Some, None, Option, nat_lt}
 use Rattle.windows.specs.declared.refusals.ListFault.{ListFault}
 use Rattle.windows.specs.declared.refusals.ListFault.TheVariants.{AboveCap, TooLong}
 use Rattle.contract.specs.Meaning.{Meaning, memory, need}
-use Rattle.windows.specs.Refusals.{fault_if, or_fault}
+use Rattle.contract.specs.Faults.{refuse_if, or_else}
+use Rattle.contract.specs.Scans.{first_failing}
 use Rattle.curve.specs.Lawful.{energy, Lawful}
 use Rattle.windows.specs.declared.verdicts.Tightest.{Tightest}
 use Rattle.windows.specs.declared.verdicts.Verdict.{Verdict}
@@ -56,9 +57,8 @@ pub record Judges (m : Meaning) (xs : List ℕ) (v : Verdict) : Type 0 where
 
 -- the first level, from slot i on, that is above the cap
 abbrev pub first_above : ℕ → ℕ → List ℕ → Option ListFault
-first_above top i [] = None
-first_above top i (x ∷ xs) = fault_if (nat_lt top x) (AboveCap i) (first_above top (i + 1) xs)
+first_above top = first_failing (λ i x. nat_lt top x) AboveCap
 
 -- a level above the cap is refused before a record that is too long
 abbrev pub verdict_refusal : Meaning → List ℕ → Option ListFault
-verdict_refusal m xs = or_fault (first_above m.«cap» 1 xs) (fault_if (nat_lt 65535 (length xs)) TooLong None)
+verdict_refusal m xs = or_else (first_above m.«cap» 1 xs) (refuse_if (nat_lt 65535 (length xs)) TooLong None)

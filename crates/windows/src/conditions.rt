@@ -1,16 +1,33 @@
-// What a contract asks of windows, read once. The struct stands apart from what cites definitions over it.
-ghost use Rattle.std.specs.Prelude.{ℕ, ◌≤◌, slice_index};
+// What a contract asks of windows, read once.
+ghost use Rattle.std.specs.Prelude.{◌≤◌, length, All};
 
-pub(crate) mod calls;
+use arrayvec::ArrayVec;
+use contract::Contract;
 
-// The cap, and the needs of lengths 1 to `memory`.
-#[derive(Clone, Copy)]
+#[derive(Drop)]
 pub(crate) struct Conditions {
     pub(crate) cap: u32,
-    pub(crate) memory: usize,
-    pub(crate) needs: [u32; 96],
+    // From length 1 on; their number is the memory.
+    pub(crate) needs: ArrayVec<u32, 96>,
     ghost capped: { «cap» ≤ 20000 },
-    ghost some: { 1 ≤ memory },
-    ghost few: { memory ≤ 96 },
-    ghost most: { (k : ℕ) → slice_index needs k ≤ 1920000 },
+    ghost some: { 1 ≤ length needs.items },
+    ghost most: { All (λ n. n ≤ 1920000) needs.items },
+}
+
+impl Conditions {
+    ghost use Rattle.windows.specs.Sums.{Copies};
+
+    pub(crate) fn of<C: Contract>(contract: &C) -> Conditions
+        ensures { Copies (C.meaning contract.now) result }
+    {
+        let mut needs = ArrayVec::new();
+        // By `push`, which is proved to find room; `extend` and `collect` return a failure to be dealt with.
+        for k in 0..contract.memory() {
+            needs.push(contract.need(k + 1));
+        }
+        Conditions {
+            cap: contract.cap(),
+            needs,
+        }
+    }
 }

@@ -1,8 +1,8 @@
 // The verdict on a record of levels.
-ghost use Rattle.std.specs.Prelude.{◌≡◌, ◌<◌, IfOk};
-ghost use Rattle.windows.specs.Refusals.{fault_of};
+ghost use Rattle.std.specs.Prelude.{◌≡◌, IfOk, nat_lt, position};
+ghost use Rattle.std.specs.Result.{result_err};
 ghost use Rattle.windows.specs.Judging.{Chosen, Decided};
-ghost use Rattle.windows.specs.Sums.{Low, margin_at};
+ghost use Rattle.windows.specs.Windows.{lengths, margin_of};
 ghost use Rattle.windows.specs.Verdicts.{first_above, Judges, verdict_refusal};
 ghost use Rattle.windows.specs.declared.verdicts.Verdict.{Verdict};
 
@@ -15,37 +15,32 @@ use contract::Contract;
 
 // Refuses the first level above the cap.
 fn check_levels(cap: u32, record: &[u32]) -> Result<(), ListFault>
-    ensures { fault_of result ≡ first_above «cap» 1 «record».now }
+    ensures { result_err result ≡ first_above «cap» 1 «record».now }
 {
-    for (i, level) in record.iter().enumerate() {
-        if *level > cap {
-            return Err(ListFault::AboveCap(i as u64 + 1));
-        }
+    match first_place_above(cap, record) {
+        Some(i) => Err(ListFault::AboveCap(i as u64 + 1)),
+        None => Ok(()),
     }
-    Ok(())
+}
+
+fn first_place_above(cap: u32, record: &[u32]) -> Option<usize>
+    ensures { result ≡ position (λ level. nat_lt «cap» level) «record».now }
+{
+    record.iter().position(|level| *level > cap)
 }
 
 // The tightest window so far, with those that end in slot `end` looked at too. Of equals the older one stays.
-fn tighter(
-    windows: &Windows,
-    conditions: &Conditions,
-    end: u32,
-    so_far: Option<Tightest>,
-) -> Tightest
-    requires { Low windows.now.sums }
-    ensures { Chosen (margin_at conditions.now.needs windows.now.sums) conditions.now.memory end so_far result }
+fn tighter(windows: &Windows, end: u32, so_far: Option<Tightest>) -> Tightest
+    ensures { Chosen (margin_of windows.now) (lengths windows.now) end so_far result }
 {
-    let margin = windows.least_margin(conditions);
-    if let Some(tightest) = so_far {
-        if tightest.margin <= margin {
-            return tightest;
-        }
-    }
-    let length = windows.shortest(conditions, margin);
-    Tightest {
-        margin,
-        end,
-        length,
+    let margin = windows.least_margin();
+    match so_far {
+        Some(tightest) if tightest.margin <= margin => tightest,
+        _ => Tightest {
+            margin,
+            end,
+            length: windows.shortest(margin),
+        },
     }
 }
 
@@ -53,17 +48,15 @@ fn tighter(
 fn decided(tightest: Option<Tightest>) -> Verdict
     ensures { Decided tightest result }
 {
-    if let Some(window) = tightest {
-        if window.margin < 0 {
-            return Verdict::Broken(window);
-        }
+    match tightest {
+        Some(window) if window.margin < 0 => Verdict::Broken(window),
+        _ => Verdict::Kept(tightest),
     }
-    Verdict::Kept(tightest)
 }
 
 // Judges levels that were granted one after the other, begun on a new contract with this one's cap, memory and needs.
 pub fn verdict<C: Contract>(contract: &C, record: &[u32]) -> Result<Verdict, ListFault>
-    ensures answer { fault_of result ≡ verdict_refusal (C.meaning contract.now) «record».now }
+    ensures answer { result_err result ≡ verdict_refusal (C.meaning contract.now) «record».now }
     ensures judged { IfOk result (Judges (C.meaning contract.now) «record».now) }
     ensures only { IfOk result (λ v. (w : Verdict) → Judges (C.meaning contract.now) «record».now w → v ≡ w) }
 {
@@ -72,11 +65,11 @@ pub fn verdict<C: Contract>(contract: &C, record: &[u32]) -> Result<Verdict, Lis
     if record.len() > LEVELS_MOST {
         return Err(ListFault::TooLong);
     }
-    let mut windows = Windows::at_cap(conditions.cap);
+    let mut windows = Windows::at_cap(conditions);
     let mut tightest = None;
     for (i, level) in record.iter().enumerate() {
-        windows.slide(*level, conditions.memory);
-        tightest = Some(tighter(&windows, &conditions, i as u32 + 1, tightest));
+        windows.slide(*level);
+        tightest = Some(tighter(&windows, i as u32 + 1, tightest));
     }
     Ok(decided(tightest))
 }

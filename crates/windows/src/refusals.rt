@@ -1,7 +1,9 @@
 // Why a forecast, a verdict or a curve is refused.
 ghost use Rattle.std.specs.Prelude.{◌≡◌, Some};
-ghost use Rattle.windows.specs.Refusals.{row, row_text};
+ghost use Rattle.contract.specs.Shown.{code_text};
+ghost use Rattle.windows.specs.Refusals.{row};
 
+use contract::{Code, Layer};
 use std::error::Error;
 use std::fmt;
 
@@ -16,26 +18,29 @@ pub enum ListFault {
 }
 
 impl ListFault {
-    // The row of the fault table: the layer's name, the number, and the detail.
-    pub fn row(self) -> (&'static str, u32, u64)
-        ensures layer { result.0.now ≡ (row self).layer }
-        ensures number { result.1 ≡ (row self).number }
-        ensures detail { result.2 ≡ (row self).detail }
+    // The row of the fault table.
+    pub fn row(self) -> Code
+        ensures { result ≡ row self }
     {
-        match self {
-            ListFault::AboveCap(slot) => ("contract", 7, slot),
-            ListFault::TooFar => ("list", 14, 0),
-            ListFault::TooLong => ("list", 15, 0),
+        let (layer, number, detail) = match self {
+            ListFault::AboveCap(slot) => (Layer::Contract, 7, slot),
+            ListFault::TooFar => (Layer::List, 14, 0),
+            ListFault::TooLong => (Layer::List, 15, 0),
+        };
+        Code {
+            layer,
+            number,
+            detail,
         }
     }
 }
 
+// Written out, as those of `Fault` are.
 impl fmt::Display for ListFault {
-    ghost output = { λ x. Some (row_text (row x)) };
+    ghost output = { λ x. Some (code_text (row x)) };
 
     fn fmt<W: fmt::Write>(&self, f: &mut fmt::Formatter<W>) -> fmt::Result {
-        let (layer, number, detail) = self.row();
-        write!(f, "layer {layer} number {number} detail {detail}")
+        write!(f, "{}", self.row())
     }
 }
 

@@ -27,10 +27,11 @@ impl fmt::Display for Tightest {
     ghost output = { λ x. Some (tightest_text x) };
 
     fn fmt<W: fmt::Write>(&self, f: &mut fmt::Formatter<W>) -> fmt::Result {
-        let margin = self.margin;
-        let end = self.end;
-        let length = self.length;
-        write!(f, "margin {margin} end {end} length {length}")
+        write!(
+            f,
+            "margin {} end {} length {}",
+            self.margin, self.end, self.length
+        )
     }
 }
 

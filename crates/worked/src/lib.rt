@@ -17,6 +17,7 @@ pub enum PlanFault {
     List(ListFault),
 }
 
+// Written out, as `thiserror` derives no contract, and a fault keeps its case.
 impl From<Fault> for PlanFault {
     ghost from_gives = { λ e r. r ≡ Contract e };
 

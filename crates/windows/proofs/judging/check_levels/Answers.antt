@@ -1,15 +1,12 @@
-use Rattle.std.proofs.Common.{◌+◌, sym, ◌∙◌, arith}
-use Rattle.std.proofs.lemmas.Bool.{lt-ltb, le-ltb}
-use Rattle.windows.proofs.Scans.{above_here, above_later, above_nowhere}
+use Rattle.std.proofs.Common.{ltb, sym, ◌∙◌}
+use Rattle.std.proofs.lemmas.List.Quantifiers.{position-Some}
+use Rattle.windows.proofs.Firsts.{first_at, first_nowhere}
 use Rattle.windows.proofs.judging.check_levels.Goals as goal
 
-pub returns-then-level-cap : goal.returns-then-level-cap
-returns-then-level-cap c =
-    sym (above_here c.args.«cap» c.args.«record».now (c.loop-i.i + 1) c.loop-i.i (omega arith) (lt-ltb _ _ c.if-level-cap.true)) ∙ c.loop-i.invariant
+pub returns-in-Some : goal.returns-in-Some
+returns-in-Some c =
+    let p = position-Some (ltb c.args.«cap») c.args.«record».now c.in-Some.i 0 (sym c.first_place_above.ensures ∙ c.in-Some.is) in
+    sym (first_at c.args.«cap» c.args.«record».now c.in-Some.i p.0 p.1 p.2)
 
-pub loop-i-preserved : goal.loop-i-preserved
-loop-i-preserved c =
-    sym (above_later c.args.«cap» c.args.«record».now (c.loop-i.i + 1) c.loop-i.i (omega arith) (le-ltb _ _ c.if-level-cap.false)) ∙ c.loop-i.invariant
-
-pub returns : goal.returns
-returns c = sym (above_nowhere c.args.«cap» c.args.«record».now (c.loop-i.i + 1) c.loop-i.i (omega arith)) ∙ c.loop-i.invariant
+pub returns-in-None : goal.returns-in-None
+returns-in-None c = sym (first_nowhere c.args.«cap» c.args.«record».now (sym c.first_place_above.ensures ∙ c.in-None.is))

@@ -1,5 +1,5 @@
 use Rattle.std.proofs.Common.{reverse, take}
-use Rattle.windows.specs.Sums.{Low, Ending}
+use Rattle.windows.specs.Sums.{Copies, Ending}
 use Rattle.windows.specs.Verdicts.{Tells}
 use Rattle.windows.proofs.judging.verdict.Given as goal
 
@@ -7,4 +7,8 @@ use Rattle.windows.proofs.judging.verdict.Given as goal
 abbrev pub invariant-loop-i : goal.invariant-loop-i
 invariant-loop-i g l =
     let m = g.C.Contract.meaning l.contract in
-    Tells m l.«record» l.i l.tightest × Low l.windows.sums × Ending m (reverse (take l.i l.«record»)) l.windows.sums
+    record {
+      tightest : Tells m l.«record» l.i l.tightest;
+      conditions : Copies m l.windows.conditions;
+      sums : Ending m (reverse (take l.i l.«record»)) l.windows.sums;
+    }

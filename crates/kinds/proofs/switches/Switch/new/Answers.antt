@@ -1,23 +1,28 @@
-use Rattle.std.proofs.Common.{arith}
+use Rattle.std.proofs.Common.{ap, ◌∙◌, arith}
 use Rattle.std.proofs.lemmas.Bool.Decides.{nat_tests}
-use Rattle.kinds.specs.Kinds.{switch_need, needs_by}
-use Rattle.kinds.specs.Places.{length-needs_by, need_by_most}
+use Rattle.kinds.specs.Kinds.{switch_need, needs_by, new_switch}
+use Rattle.kinds.specs.Places.{length-needs_by, need_by_most, switch_need_most}
 use Rattle.kinds.specs.Recalls.{begun_ring, new_ring}
 use Rattle.kinds.proofs.switches.Switch.new.Goals as goal
 
 pub returns : goal.returns
 returns c =
-    let a = c.args in
-    let f = switch_need a.«cap» a.allowance in
-    let long = length-needs_by f a.memory in
+    let allowance = c.args.allowance in
+    let top = c.in_ok-cap.cap in
+    let memory = c.in_ok-cap.memory in
+    let told = c.in_ok-cap.ensures in
+    let f = switch_need top allowance in
+    let long = length-needs_by f memory in
     record {
-      answer = grind (arith, nat_tests);
+      answer = grind (arith, nat_tests, told);
       fault = tt;
-      made = begun_ring a.«cap» a.memory (needs_by f a.memory) long c.new.result (omega arith) c.new.ensures.full;
+      made =
+          begun_ring top memory (needs_by f memory) long c.new.result told.sizes.3 c.new.ensures.full
+          ∙ ap (λ t. new_switch t memory allowance) told.taken.0
+          ∙ ap (λ n. new_switch c.args.«cap» n allowance) told.taken.1;
       begun =
-          new_ring a.«cap» a.memory (needs_by f a.memory) long c.new.result
-          (omega arith, omega arith, omega arith, omega arith)
-          (need_by_most f a.memory a.«cap» (λ k low high. omega arith))
+          new_ring top memory (needs_by f memory) long c.new.result told.sizes
+          (need_by_most f memory top (λ k low high. switch_need_most top allowance k))
           c.new.ensures.held
           c.new.ensures.full;
     }

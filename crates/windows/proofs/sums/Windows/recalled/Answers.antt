@@ -1,34 +1,47 @@
-use Rattle.std.proofs.Common.{◌≡◌, suc, ◌+◌, ◌-◌, ◌*◌, ◌<◌, ◌≤◌, length, refl, ◌∙◌, arith}
-use Rattle.std.proofs.lemmas.List.{length-set}
-use Rattle.contract.specs.Meaning.{newest}
+use Rattle.std.proofs.Common.{◌≡◌, ℕ, suc, ◌+◌, ◌-◌, ◌*◌, ◌<◌, ◌≤◌, ◌≢◌, List, length, get_or, drop, replicate, set, sym, refl, ap, ◌∙◌, add-one, arith, below_more}
+use Rattle.std.proofs.lemmas.List.{get_or-set_same, get_or-set_other, get_or_append_left, length-take}
+use Rattle.contract.specs.Meaning.{memory, back, newest}
 use Rattle.contract.proofs.Levels.{newest_more}
-use Rattle.windows.proofs.Reading.{low_set, zeros}
-use Rattle.windows.proofs.Sliding.{newest-set}
+use Rattle.windows.proofs.Reading.{low_set, low_start, low_front}
 use Rattle.windows.proofs.sums.Windows.recalled.Goals as goal
 
-pub loop-i-init : goal.loop-i-init
-loop-i-init g c = (refl, refl, omega arith, (λ k (h : suc k < 1). absurd (omega arith)), (λ k. omega (arith, zeros 96 k)))
+pub loop-k-init : goal.loop-k-init
+loop-k-init g c = record { recent = refl; most = omega arith; sums = λ j (h : j < 0). absurd (omega arith); low = low_start (c.len.result - 1) 96 }
 
-pub overflow_add-recent : goal.overflow_add-recent
-overflow_add-recent g c =
-    let s = g.met.C.Contract.limits c.args.contract.now in
-    omega (arith, c.loop-i.invariant.2, s.memory_most, s.cap_most, s.recall_most c.loop-i.i, c.back-recent.ensures, c.memory-i-end.ensures)
-
-pub loop-i-preserved : goal.loop-i-preserved
-loop-i-preserved g c =
+pub loop-k-preserved : goal.loop-k-preserved
+loop-k-preserved g c =
     let m = g.C.Contract.meaning c.args.contract.now in
     let s = g.met.C.Contract.limits c.args.contract.now in
-    let i = c.loop-i.i in
-    let inv = c.loop-i.invariant in
-    let xs = c.loop-i.sums in
-    let v = c.loop-i.recent + c.back-recent.result in
-    let least : 1 ≤ i = c.loop-i.auto.i in
-    let within : i - 1 < length xs = omega (arith, inv.0, s.memory_most, c.memory-i-end.ensures) in
-    let most : v ≤ i * 20000 = omega (arith, inv.2, s.cap_most, s.recall_most i, c.back-recent.ensures) in
-    let sums : v ≡ newest m ((i + 1) - 1) = omega (arith, inv.1, c.back-recent.ensures, newest_more m i least) in (
-      length-set xs (i - 1) v ∙ inv.0,
-      sums,
-      omega (arith, most),
-      newest-set m xs i v least within inv.3 sums,
-      low_set xs (i - 1) v within inv.4 (omega (arith, most)),
-    )
+    let k = c.loop-k.k in
+    let inv = c.loop-k.invariant in
+    let xs = c.loop-k.sum-items in
+    let v = c.loop-k.recent + c.back-recent.result in
+    let within : k < length xs = omega arith in
+    let d : k + 1 - 1 ≡ k = omega arith in
+    let e : k + 1 + 1 - 1 ≡ k + 1 = omega arith in
+    let step : newest m (k + 1) ≡ newest m k + back m (k + 1) =
+    ap (newest m) (sym e) ∙ newest_more m (k + 1) (omega arith) ∙ ap (λ (t : ℕ). newest m t + back m (k + 1)) d in
+    let most : v ≤ suc k * 20000 = omega (arith, inv.most, s.cap_most, s.recall_most (k + 1), c.back-recent.ensures) in
+    let sum : v ≡ newest m (k + 1) = omega (arith, inv.recent, c.back-recent.ensures, step) in
+    record {
+      recent = sum;
+      most = omega (arith, most);
+      sums = below_more (λ j. get_or (set xs k v) j 0 ≡ newest m (suc j)) k
+          (λ j (l : j < k). let ne : j ≢ k = omega arith in get_or-set_other xs k j v 0 ne ∙ inv.sums j l)
+          (get_or-set_same xs k v 0 within ∙ sum ∙ ap (newest m) (add-one k));
+      low = low_set xs k v within inv.low most;
+    }
+
+pub invariant_of-result : goal.invariant_of-result
+invariant_of-result g c = record { low = low_front c.loop-k.sum-items (c.len.result - 1) 96 c.loop-k.invariant.low }
+
+pub returns : goal.returns
+returns g c =
+    let m = g.C.Contract.meaning c.args.contract.now in
+    let xs = c.loop-k.sum-items in
+    record {
+      conditions = c.of-conditions.ensures;
+      sums = λ k (h : suc k < memory m).
+          let within : k < length xs = omega (arith, ap (λ (ns : List ℕ). length ns) c.of-conditions.ensures.1, length-take {A = ℕ} (c.len.result - 1) (replicate 96 0), c.loop-k.auto.sum-items, c.len.ensures.value, c.len.ensures.fits) in
+          get_or_append_left xs (drop (c.len.result - 1) (replicate 96 0)) 0 k within ∙ c.loop-k.invariant.sums k (omega arith);
+    }

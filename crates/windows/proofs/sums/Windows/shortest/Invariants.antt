@@ -1,6 +1,6 @@
 use Rattle.std.proofs.Common.{ℕ, ◌<◌, ◌<ℤ◌}
-use Rattle.windows.specs.Sums.{margin_at}
+use Rattle.windows.specs.Windows.{margin_of}
 use Rattle.windows.proofs.sums.Windows.shortest.Given as goal
 
 abbrev pub invariant-loop-k : goal.invariant-loop-k
-invariant-loop-k l = (j : ℕ) → j < l.k → l.margin <ℤ margin_at l.conditions.needs l.self.sums j
+invariant-loop-k l = (j : ℕ) → j < l.k → l.margin <ℤ margin_of l.self j

@@ -1,0 +1,75 @@
+// What the programs share: terms from the command line, the lines of the input, and how a program ends.
+#![tactic(auto)]
+
+ghost use Rattle.std.specs.Prelude.{◌≡◌, map, string_bytes, MatchOption, MatchResult};
+ghost use Rattle.std.specs.Process.{exit_status};
+ghost use Rattle.evening.specs.declared.terms.Terms.{Terms};
+ghost use Rattle.desk.specs.Words.{GivesTerms};
+
+use anyhow::anyhow;
+use evening::{Terms, number_of};
+use std::env;
+use std::fmt::Display;
+use std::io::{BufRead, BufReader, Read};
+use std::process::ExitCode;
+use std::rt::Env;
+
+const USAGE: &str = "usage: rack [CAP MEMORY ALLOWANCE FLOOR]";
+
+// The terms that the words give.
+#[tactic(auto, using(crate::proofs::Counts::no_terms))]
+pub fn terms_of(words: &[String]) -> Option<Terms>
+    ensures { MatchOption result ((terms : Terms) → GivesTerms (map string_bytes words.now) terms → ⊥) (GivesTerms (map string_bytes words.now)) }
+{
+    match words {
+        [] => Some(Terms::from([100, 4, 80, 20])),
+        [cap, memory, allowance, floor] => Some(Terms::from([
+            number_of(cap.as_bytes()).ok()?,
+            number_of(memory.as_bytes()).ok()?,
+            number_of(allowance.as_bytes()).ok()?,
+            number_of(floor.as_bytes()).ok()?,
+        ])),
+        _ => None,
+    }
+}
+
+// The terms that the command line gives.
+pub fn read_terms(rt: &(impl Env + AllocGlobal)) -> anyhow::Result<Terms> {
+    let words: Vec<String> = env::args(rt)?.skip(1).collect(rt.alloc())?;
+    terms_of(&words).ok_or_else(|| anyhow!("{USAGE}"))
+}
+
+// Hands each line of the input to `answer`, with its number from 1, and prints what is answered.
+pub fn answer_lines<I: Read + Drop, A: Display + Drop, F: FnMut(u64, &[u8]) -> anyhow::Result<A>>(
+    rt: &(impl Print + AllocGlobal),
+    input: I,
+    mut answer: F,
+) -> anyhow::Result<()>
+    requires { F.IsAlwaysCallable answer }
+{
+    let mut input = BufReader::new(rt.alloc(), input)?;
+    let mut line = Vec::new(rt.alloc());
+    // Nothing says that an input ends, so the lines are counted; `lines` would drop the line feed, which a level needs.
+    for count in 1..u64::MAX {
+        line.clear();
+        if input.read_until(b'\n', &mut line)? == 0 {
+            break;
+        }
+        rt.println(answer(count, &line)?)?;
+    }
+    Ok(())
+}
+
+// The status that a program ends with; an error is told on the way.
+pub fn exit_code(rt: &impl Eprint, ended: anyhow::Result<()>) -> ExitCode
+    ensures { MatchResult ended (λ _. exit_status result ≡ 0) (λ _. exit_status result ≡ 1) }
+{
+    match ended {
+        Ok(()) => ExitCode::SUCCESS,
+        Err(error) => {
+            // Where not even this can be told, the status still tells.
+            let _told = eprintln!(rt; "rack: {error}");
+            ExitCode::FAILURE
+        }
+    }
+}
