@@ -40,16 +40,16 @@ pub enum Layer {
 #[derive(Clone, Copy, PartialEq, Eq, Debug)]
 pub struct Code {
     pub layer: Layer,
+    // The table's own, to be shown: a program goes by the case of the fault.
     pub number: u32,
     pub detail: u64,
 }
 
-impl Fault {
-    // The row of the fault table.
-    pub fn code(self) -> Code
-        ensures { result ≡ code self }
-    {
-        let (layer, number, detail) = match self {
+impl From<Fault> for Code {
+    ghost from_gives = { λ fault c. c ≡ code fault };
+
+    fn from(fault: Fault) -> Code {
+        let (layer, number, detail) = match fault {
             Fault::Unreadable => (Layer::Text, 1, 0),
             Fault::Cap => (Layer::Contract, 3, 0),
             Fault::Memory => (Layer::Contract, 4, 0),
@@ -67,16 +67,33 @@ impl Fault {
     }
 }
 
+impl Fault {
+    // The row of the fault table.
+    pub fn code(self) -> Code
+        ensures { result ≡ code self }
+    {
+        Code::from(self)
+    }
+}
+
+impl Layer {
+    pub fn name(self) -> &'static str
+        ensures { result.now ≡ layer_name self }
+    {
+        match self {
+            Layer::Text => "text",
+            Layer::Contract => "contract",
+            Layer::List => "list",
+        }
+    }
+}
+
 // Written out, as `thiserror` derives no contract, and the bytes are promised.
 impl fmt::Display for Layer {
     ghost output = { λ x. Some (layer_name x) };
 
     fn fmt<W: fmt::Write>(&self, f: &mut fmt::Formatter<W>) -> fmt::Result {
-        match self {
-            Layer::Text => write!(f, "text"),
-            Layer::Contract => write!(f, "contract"),
-            Layer::List => write!(f, "list"),
-        }
+        write!(f, "{}", self.name())
     }
 }
 

@@ -6,7 +6,7 @@ ghost use Rattle.contract.specs.Faults.{refusal, grant_refusal, unless_refused};
 use crate::faults::Fault;
 
 pub trait Contract {
-    // The letter of the kind, and what clauses know of it.
+    // The letter by which the kind is printed, fixed by a rule of the project, and what clauses know of it.
     const LETTER: char;
 
     ghost LETTER: { ℕ };

@@ -33,13 +33,14 @@ pub fn terms_of(words: &[String]) -> Option<Terms>
     }
 }
 
-// The terms that the command line gives.
+// The terms that the command line gives. No clause: nothing is known of its words.
 pub fn read_terms(rt: &(impl Env + AllocGlobal)) -> anyhow::Result<Terms> {
     let words: Vec<String> = env::args(rt)?.skip(1).collect(rt.alloc())?;
     terms_of(&words).ok_or_else(|| anyhow!("{USAGE}"))
 }
 
-// Hands each line of the input to `answer`, with its number from 1, and prints what is answered.
+// Hands each line of the input to `answer`, with its number from 1, and prints what is answered. No clause: nothing is known of
+// what is read, and what is printed leaves no value.
 pub fn answer_lines<I: Read + Drop, A: Display + Drop, F: FnMut(u64, &[u8]) -> anyhow::Result<A>>(
     rt: &(impl Print + AllocGlobal),
     input: I,
@@ -64,6 +65,7 @@ pub fn answer_lines<I: Read + Drop, A: Display + Drop, F: FnMut(u64, &[u8]) -> a
 pub fn exit_code(rt: &impl Eprint, ended: anyhow::Result<()>) -> ExitCode
     ensures { MatchResult ended (λ _. exit_status result ≡ 0) (λ _. exit_status result ≡ 1) }
 {
+    // A `match`, since an error is told on the way.
     match ended {
         Ok(()) => ExitCode::SUCCESS,
         Err(error) => {

@@ -1,3 +1,4 @@
 pub mod Numerals
 pub mod Lines
 pub mod Evenings
+pub mod Agreed

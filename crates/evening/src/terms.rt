@@ -1,9 +1,7 @@
 // What the evening's contract is made of.
 ghost use Rattle.std.specs.Prelude.{◌≡◌, [], ◌∷◌, IfOk};
-ghost use Rattle.contract.specs.Faults.{refusal, or_else};
+ghost use Rattle.contract.specs.Faults.{refusal};
 ghost use Rattle.contract.specs.Meaning.{New, memory};
-ghost use Rattle.kinds.specs.Kinds.{new_switch, switch_refusal};
-ghost use Rattle.layers.specs.Layers.{floored, floor_refusal};
 ghost use Rattle.evening.specs.declared.replies.Reply.TheVariants.{Begins};
 
 use crate::replies::Reply;
@@ -35,10 +33,12 @@ impl From<[u64; 4]> for Terms {
 }
 
 impl Terms {
+    ghost use Rattle.evening.specs.Agreed.{agreed, terms_refusal};
+
     // The contract, or why there is none.
     pub fn agree(self) -> Result<Floor<Switch>, Fault>
-        ensures answer { refusal result ≡ or_else (switch_refusal self.«cap» self.memory self.allowance) (floor_refusal (new_switch self.«cap» self.memory self.allowance) self.floor) }
-        ensures made { IfOk result (λ s. ⟦<Floor<Switch> as Contract>⟧.meaning s ≡ floored (new_switch self.«cap» self.memory self.allowance) self.floor) }
+        ensures answer { refusal result ≡ terms_refusal self }
+        ensures made { IfOk result (λ s. ⟦<Floor<Switch> as Contract>⟧.meaning s ≡ agreed self) }
         ensures begun { IfOk result (λ s. New (⟦<Floor<Switch> as Contract>⟧.meaning s)) }
     {
         let switch = Switch::new(self.cap, self.memory, self.allowance)?;

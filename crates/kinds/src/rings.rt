@@ -1,4 +1,5 @@
-// The last 96 levels. A plain struct: what holds of it is said by the kind that has one.
+// The last 96 levels, in an array that begins at the cap and a struct without an invariant, by a rule of the project: what
+// holds of it is said by the kind that has one.
 ghost use Rattle.std.specs.Prelude.{◌≡◌, ℕ, ◌-◌, ◌<◌, ◌≤◌, ◌∷◌, take, replicate, slice_index};
 ghost use Rattle.kinds.specs.Rings.{recent, Held};
 

@@ -11,7 +11,8 @@ use crate::sizes::check_sizes;
 use contract::{Contract, Fault};
 
 // A window of k slots is owed k times the cap, less the allowance. A switch is moved and not copied: two
-// would part in what they recall.
+// would part in what they recall. A type of its own beside the table: one for both would save three short answers, and
+// want a trait for what is owed, with the limits of each as its laws.
 #[derive(Drop)]
 pub struct Switch {
     cap: u32,

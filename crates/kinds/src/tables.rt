@@ -66,7 +66,7 @@ impl Contract for Table {
         self.ring.back(self.needs.count(), slots)
     }
 
-    // As the switch does: a call in the trait that took a level untested, for both, would ask its caller for the test.
+    // In the same words as the switch: one call in the trait, that took any level, would ask its caller for the test.
     fn grant(&mut self, level: u64) -> Result<(), Fault> {
         let level = self.admit(level)?;
         self.ring.push(level);

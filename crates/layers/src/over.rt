@@ -43,12 +43,13 @@ impl<C: Contract, N: OwnNeeds + Drop> Over<C, N> {
     ghost use Rattle.layers.specs.Layers.{Answers};
 
     // Needs that were refused, or a contract that recalls a level under the cap, make no layer.
-    pub(crate) fn lay(below: C, own: Result<N, Fault>) -> Result<Over<C, N>, Returned<C>>
+    pub fn lay(below: C, own: Result<N, Fault>) -> Result<Over<C, N>, Returned<C>>
         ensures answer { Answers result (or_else (refusal own) (recalled_refusal (C.meaning below))) }
         ensures fault { IfErr result (λ e. (own ≡ Err e.fault) ⊎ (e.fault ≡ NotNew)) }
         ensures made { MatchResult result (λ s. (s.below ≡ below) × (own ≡ Ok s.own)) (λ e. e.contract ≡ below) }
         ensures begun { IfOk result (λ s. New (layered (C.meaning s.below) (N.own s.own (C.meaning s.below).«cap»))) }
     {
+        // A `match`: the contract below goes one way or the other, and two closures could not both take it.
         let fault = match own {
             Err(fault) => fault,
             Ok(_) if recalls_under_cap(&below) => Fault::NotNew,

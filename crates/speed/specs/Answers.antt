@@ -5,7 +5,7 @@ use Rattle.contract.specs.Meaning.{Meaning}
 use Rattle.windows.specs.Forecasts.{forecast_refusal}
 use Rattle.windows.specs.Verdicts.{Tells, verdict_refusal}
 use Rattle.windows.specs.declared.verdicts.Tightest.{Tightest}
-use Rattle.outlook.specs.Agreed.{agreed, terms_refusal}
+use Rattle.evening.specs.Agreed.{agreed, terms_refusal}
 use Rattle.evening.specs.declared.terms.Terms.{Terms}
 
 abbrev pub terms : ℕ → ℕ → ℕ → ℕ → Terms

@@ -1,11 +1,12 @@
-// What the benchmark calls from Rust: only numbers and slices pass between the two.
+// What the benchmark calls from Rust by the C interface: only numbers and slices pass between the two, so terms come as
+// four numbers.
 #![tactic(auto)]
 
 ghost use Rattle.std.specs.Prelude.{◌≡◌, cond, not, is_some, length, Some, None, IfSome};
 ghost use Rattle.contract.specs.Meaning.{granted};
 ghost use Rattle.windows.specs.Forecasts.{forecast_energy, list_after};
 ghost use Rattle.windows.specs.Verdicts.{Judges};
-ghost use Rattle.outlook.specs.Agreed.{agreed};
+ghost use Rattle.evening.specs.Agreed.{agreed};
 ghost use Rattle.speed.specs.Answers.{LeastMargin, audit_refused, plan_refused, terms};
 
 use contract::Contract;
@@ -45,7 +46,12 @@ pub extern "C" fn guldoper_forecast(
     ensures energy { result ≡ cond (plan_refused (terms «cap» memory allowance floor) level slots (length list.old)) 0 (forecast_energy (granted (agreed (terms «cap» memory allowance floor)) level) slots) }
     ensures after { list.new ≡ cond (plan_refused (terms «cap» memory allowance floor) level slots (length list.old)) list.old (list_after (granted (agreed (terms «cap» memory allowance floor)) level) slots list.old) }
 {
-    let terms = Terms::from([cap, memory, allowance, floor]);
+    let terms = Terms {
+        cap,
+        memory,
+        allowance,
+        floor,
+    };
     plan(terms, level, slots, list).unwrap_or(0)
 }
 
@@ -60,7 +66,12 @@ pub extern "C" fn guldoper_margin(
 ) -> i32
     ensures { LeastMargin (audit_refused (terms «cap» memory allowance floor) «record».now) (agreed (terms «cap» memory allowance floor)) «record».now result }
 {
-    let terms = Terms::from([cap, memory, allowance, floor]);
+    let terms = Terms {
+        cap,
+        memory,
+        allowance,
+        floor,
+    };
     // Zero for none: the caller in C has no `Option`.
     match audit(terms, record) {
         Some(Verdict::Kept(Some(tightest))) => tightest.margin,

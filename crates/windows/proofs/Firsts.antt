@@ -1,6 +1,8 @@
 -- The first level above the cap, by its place.
-use Rattle.std.proofs.Common.{◌≡◌, ℕ, zero, suc, ◌+◌, ◌<◌, ◌≤◌, true, false, ltb, List, length, get_or, drop, Some, None, refl, ap, ◌∙◌, ⊎_elim, add-one, arith}
+use Rattle.std.proofs.Common.{◌≡◌, ℕ, zero, suc, ◌+◌, ◌<◌, ◌≤◌, true, false, ltb, List, length, get_or, drop, Some, None, Option, refl, ap, ◌∙◌, ⊎_elim, add-one, arith}
 use Rattle.std.specs.List.{position, position_or_len}
+use Rattle.std.specs.Option.{option_map}
+use Rattle.std.proofs.lemmas.List.Quantifiers.{position-Some}
 use Rattle.std.proofs.lemmas.Bool.{cases_lt, lt-ltb}
 use Rattle.std.proofs.lemmas.List.Sums.{fails_before_first}
 use Rattle.windows.specs.declared.refusals.ListFault.TheVariants.{AboveCap}
@@ -31,3 +33,11 @@ module _ (top : ℕ) (xs : List ℕ) where
           (λ (l : k < at). fails_before_first (ltb top) xs k 0 l)
           (λ (l : at ≤ k). let some : ltb at (length xs) ≡ true = lt-ltb at (length xs) (omega arith) in let e = rw some at none in cc)
           (cases_lt k at)
+
+  -- the fault by its place
+  pub first_of : first_above top 1 xs ≡ option_map (λ i. AboveCap (i + 1)) (position (ltb top) xs)
+  first_of = by_place (position (ltb top) xs) refl
+    where
+      by_place : (o : Option ℕ) → position (ltb top) xs ≡ o → first_above top 1 xs ≡ option_map (λ i. AboveCap (i + 1)) o
+      by_place None e = first_nowhere e
+      by_place (Some i) e = let p = position-Some (ltb top) xs i 0 e in first_at i p.0 p.1 p.2

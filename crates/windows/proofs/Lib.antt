@@ -7,3 +7,4 @@ pub mod Ahead
 pub mod Least
 pub mod Foreseen
 pub mod Records
+pub mod Unique

@@ -17,10 +17,7 @@ use contract::Contract;
 fn check_levels(cap: u32, record: &[u32]) -> Result<(), ListFault>
     ensures { result_err result ≡ first_above «cap» 1 «record».now }
 {
-    match first_place_above(cap, record) {
-        Some(i) => Err(ListFault::AboveCap(i as u64 + 1)),
-        None => Ok(()),
-    }
+    first_place_above(cap, record).map_or(Ok(()), |i| Err(ListFault::AboveCap(i as u64 + 1)))
 }
 
 fn first_place_above(cap: u32, record: &[u32]) -> Option<usize>
@@ -55,6 +52,7 @@ fn decided(tightest: Option<Tightest>) -> Verdict
 }
 
 // Judges levels that were granted one after the other, begun on a new contract with this one's cap, memory and needs.
+#[tactic(auto, using(crate::proofs::Unique::one_verdict))]
 pub fn verdict<C: Contract>(contract: &C, record: &[u32]) -> Result<Verdict, ListFault>
     ensures answer { result_err result ≡ verdict_refusal (C.meaning contract.now) «record».now }
     ensures judged { IfOk result (Judges (C.meaning contract.now) «record».now) }
@@ -67,6 +65,7 @@ pub fn verdict<C: Contract>(contract: &C, record: &[u32]) -> Result<Verdict, Lis
     }
     let mut windows = Windows::at_cap(conditions);
     let mut tightest = None;
+    // A `for` over the record with its slots, and the sums beside, by a rule of the project.
     for (i, level) in record.iter().enumerate() {
         windows.slide(*level);
         tightest = Some(tighter(&windows, i as u32 + 1, tightest));

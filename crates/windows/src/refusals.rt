@@ -17,12 +17,11 @@ pub enum ListFault {
     TooLong,
 }
 
-impl ListFault {
-    // The row of the fault table.
-    pub fn row(self) -> Code
-        ensures { result ≡ row self }
-    {
-        let (layer, number, detail) = match self {
+impl From<ListFault> for Code {
+    ghost from_gives = { λ fault c. c ≡ row fault };
+
+    fn from(fault: ListFault) -> Code {
+        let (layer, number, detail) = match fault {
             ListFault::AboveCap(slot) => (Layer::Contract, 7, slot),
             ListFault::TooFar => (Layer::List, 14, 0),
             ListFault::TooLong => (Layer::List, 15, 0),
@@ -35,7 +34,16 @@ impl ListFault {
     }
 }
 
-// Written out, as those of `Fault` are.
+impl ListFault {
+    // The row of the fault table, as `code` of a `Fault` gives it.
+    pub fn row(self) -> Code
+        ensures { result ≡ row self }
+    {
+        Code::from(self)
+    }
+}
+
+// Written out, as that of `Fault` is; one impl for both would be one for every type.
 impl fmt::Display for ListFault {
     ghost output = { λ x. Some (code_text (row x)) };
 

@@ -18,7 +18,8 @@ fn excess(energy: u32, other: u32) -> i32
 #[derive(Drop)]
 pub(crate) struct Windows {
     conditions: Conditions,
-    // From length 1 on, as many as there are needs; the places behind them do not count.
+    // From length 1 on, as many as there are needs; the places behind them do not count. An array: an `ArrayVec` would have a
+    // second length, to be kept equal to that of the needs.
     sums: [u32; 96],
     ghost low: { Low sums },
 }
@@ -61,7 +62,8 @@ impl Windows {
         ensures sums { Slid level (lengths self.old) self.old.sums self.new.sums }
     {
         let mut before = 0;
-        // By index: the check covers no slice of a field that is lent for writing where the type has an invariant.
+        // By index: the check covers no slice of a field that is lent for writing where the type has an invariant, and of a
+        // `take` over `iter_mut` the proof did not close.
         for i in 0..self.conditions.needs.len() {
             let sum = self.sums[i];
             self.sums[i] = level + before;

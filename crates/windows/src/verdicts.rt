@@ -15,6 +15,7 @@ pub struct Tightest {
     pub length: u32,
 }
 
+// No `Result`: that a record is broken is an answer, and no failure of the call.
 #[derive(Clone, Copy, PartialEq, Eq, Debug)]
 pub enum Verdict {
     // No margin is negative; an empty record has none at all.

@@ -10,40 +10,35 @@ use Rattle.windows.proofs.Margins.{judges}
 abbrev hand_record : List ℕ
 hand_record = 40 ∷ 30 ∷ 100 ∷ []
 
+-- what holds at each length up to the memory
+one_to_four : (P : ℕ → Type 0) → P 1 → P 2 → P 3 → P 4 → (k : ℕ) → 1 ≤ k → k ≤ 4 → P k
+one_to_four P p q r s zero low high = absurd (omega arith)
+one_to_four P p q r s (suc zero) low high = p
+one_to_four P p q r s (suc (suc zero)) low high = q
+one_to_four P p q r s (suc (suc (suc zero))) low high = r
+one_to_four P p q r s (suc (suc (suc (suc zero)))) low high = s
+one_to_four P p q r s (suc (suc (suc (suc (suc k))))) low high = absurd (omega arith)
+
 -- the margins of its windows: slot 1 has 40, 40, 40, 40; slot 2 has 30, -30, -30, -30; slot 3 has 100, 30, -30, -30
-none_lower : (e k : ℕ) → 1 ≤ e → e ≤ 3 → 1 ≤ k → k ≤ 4 → negsuc 29 ≤ℤ margin hand_switch hand_record e k
-none_lower zero k a b c d = absurd (omega arith)
-none_lower (suc zero) zero a b c d = absurd (omega arith)
-none_lower (suc zero) (suc zero) a b c d = le_z_yes tt
-none_lower (suc zero) (suc (suc zero)) a b c d = le_z_yes tt
-none_lower (suc zero) (suc (suc (suc zero))) a b c d = le_z_yes tt
-none_lower (suc zero) (suc (suc (suc (suc zero)))) a b c d = le_z_yes tt
-none_lower (suc zero) (suc (suc (suc (suc (suc k))))) a b c d = absurd (omega arith)
-none_lower (suc (suc zero)) zero a b c d = absurd (omega arith)
-none_lower (suc (suc zero)) (suc zero) a b c d = le_z_yes tt
-none_lower (suc (suc zero)) (suc (suc zero)) a b c d = le_z_yes tt
-none_lower (suc (suc zero)) (suc (suc (suc zero))) a b c d = le_z_yes tt
-none_lower (suc (suc zero)) (suc (suc (suc (suc zero)))) a b c d = le_z_yes tt
-none_lower (suc (suc zero)) (suc (suc (suc (suc (suc k))))) a b c d = absurd (omega arith)
-none_lower (suc (suc (suc zero))) zero a b c d = absurd (omega arith)
-none_lower (suc (suc (suc zero))) (suc zero) a b c d = le_z_yes tt
-none_lower (suc (suc (suc zero))) (suc (suc zero)) a b c d = le_z_yes tt
-none_lower (suc (suc (suc zero))) (suc (suc (suc zero))) a b c d = le_z_yes tt
-none_lower (suc (suc (suc zero))) (suc (suc (suc (suc zero)))) a b c d = le_z_yes tt
-none_lower (suc (suc (suc zero))) (suc (suc (suc (suc (suc k))))) a b c d = absurd (omega arith)
-none_lower (suc (suc (suc (suc e)))) k a b c d = absurd (omega arith)
+abbrev AtLeast : ℕ → ℕ → Type 0
+AtLeast e k = negsuc 29 ≤ℤ margin hand_switch hand_record e k
 
-higher_before : (e k : ℕ) → 1 ≤ e → e < 2 → 1 ≤ k → k ≤ 4 → negsuc 29 <ℤ margin hand_switch hand_record e k
-higher_before zero k a b c d = absurd (omega arith)
-higher_before (suc zero) zero a b c d = absurd (omega arith)
-higher_before (suc zero) (suc zero) a b c d = lt_z_yes tt
-higher_before (suc zero) (suc (suc zero)) a b c d = lt_z_yes tt
-higher_before (suc zero) (suc (suc (suc zero))) a b c d = lt_z_yes tt
-higher_before (suc zero) (suc (suc (suc (suc zero)))) a b c d = lt_z_yes tt
-higher_before (suc zero) (suc (suc (suc (suc (suc k))))) a b c d = absurd (omega arith)
-higher_before (suc (suc e)) k a b c d = absurd (omega arith)
+none_lower : (e k : ℕ) → 1 ≤ e → e ≤ 3 → 1 ≤ k → k ≤ 4 → AtLeast e k
+none_lower zero k a b = absurd (omega arith)
+none_lower (suc zero) k a b = one_to_four (AtLeast 1) (le_z_yes tt) (le_z_yes tt) (le_z_yes tt) (le_z_yes tt) k
+none_lower (suc (suc zero)) k a b = one_to_four (AtLeast 2) (le_z_yes tt) (le_z_yes tt) (le_z_yes tt) (le_z_yes tt) k
+none_lower (suc (suc (suc zero))) k a b = one_to_four (AtLeast 3) (le_z_yes tt) (le_z_yes tt) (le_z_yes tt) (le_z_yes tt) k
+none_lower (suc (suc (suc (suc e)))) k a b = absurd (omega arith)
 
-higher_shorter : (k : ℕ) → 1 ≤ k → k < 2 → negsuc 29 <ℤ margin hand_switch hand_record 2 k
+abbrev Above : ℕ → ℕ → Type 0
+Above e k = negsuc 29 <ℤ margin hand_switch hand_record e k
+
+higher_before : (e k : ℕ) → 1 ≤ e → e < 2 → 1 ≤ k → k ≤ 4 → Above e k
+higher_before zero k a b = absurd (omega arith)
+higher_before (suc zero) k a b = one_to_four (Above 1) (lt_z_yes tt) (lt_z_yes tt) (lt_z_yes tt) (lt_z_yes tt) k
+higher_before (suc (suc e)) k a b = absurd (omega arith)
+
+higher_shorter : (k : ℕ) → 1 ≤ k → k < 2 → Above 2 k
 higher_shorter zero a b = absurd (omega arith)
 higher_shorter (suc zero) a b = lt_z_yes tt
 higher_shorter (suc (suc k)) a b = absurd (omega arith)

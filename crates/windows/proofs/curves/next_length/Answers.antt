@@ -1,7 +1,7 @@
 use Rattle.std.proofs.Common.{◌≡◌, length, get_or, inl, inr, ⊎_elim, rules}
 use Rattle.std.specs.Slice.Iter.{iter_rest}
 use Rattle.std.specs.Iterator.Adapters.{zip_first, zip_second, rev_source}
-use Rattle.windows.proofs.Bests.{best_none, best_more, best_all}
+use Rattle.windows.proofs.Bests.{best_none, best_all}
 use Rattle.windows.proofs.curves.next_length.Goals as goal
 
 pub loop-need-init : goal.loop-need-init
@@ -11,11 +11,6 @@ loop-need-init c =
     let before : iter_rest (rev_source (zip_second it)) ≡ c.args.shorter.now = cc in
     let most : c.unwrap_or-most.result ≡ get_or c.args.needs.now (length c.args.shorter.now) 0 = search rules in
     best_none _ _ _ _ _ rest before most
-
-pub loop-need-preserved : goal.loop-need-preserved
-loop-need-preserved c =
-    let step = c.in-Some.ensures.steps in
-    best_more _ _ _ _ _ _ _ _ _ step.0 step.1 c.max-most.ensures c.loop-need.invariant
 
 pub returns : goal.returns
 returns c =

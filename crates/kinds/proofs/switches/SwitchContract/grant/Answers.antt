@@ -14,14 +14,9 @@ invariant_of-self c =
     let below = admitted_cap (switch_meaning s) c.args.level (sym told.answer) in
     record { sizes = s.sizes; held = c.push.ensures.held s.«cap» s.held (omega (arith, below, told.value)) }
 
-pub returns : goal.returns
-returns c =
+pub returns-clause-after : goal.returns-clause-after
+returns-clause-after c =
     let s = c.args.self.now in
-    let told = c.in_ok-level.ensures in
     let f = switch_need s.«cap» s.allowance in
-    record {
-      answer = told.answer;
-      after =
-          granted_ring s.«cap» s.memory (needs_by f s.memory) (length-needs_by f s.memory) s.ring c.push.new.self c.in_ok-level.level s.sizes.3 c.push.ensures.after
-          ∙ ap (granted (switch_meaning s)) told.value;
-    }
+    granted_ring s.«cap» s.memory (needs_by f s.memory) (length-needs_by f s.memory) s.ring c.push.new.self c.in_ok-level.level s.sizes.3 c.push.ensures.after
+    ∙ ap (granted (switch_meaning s)) c.in_ok-level.ensures.value

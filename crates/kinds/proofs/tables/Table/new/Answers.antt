@@ -26,17 +26,24 @@ invariant_of-result c =
       held = c.new-ring.ensures.held;
     }
 
-pub returns : goal.returns
-returns c =
+pub returns-clause-made : goal.returns-clause-made
+returns-clause-made c =
+    let top = c.args.«cap» in
+    let xs = c.args.needs.now in
+    let told = c.in_ok-needs.ensures in
+    let ys = listed c.in_ok-needs.needs in
+    let sizes = sizes_kept top xs ys told.made (taken_sizes top xs (sym told.answer)) in
+    begun_ring top (length ys) ys refl c.new-ring.result sizes.3 c.new-ring.ensures.full ∙ ap (new_table top) told.made
+
+pub returns-clause-begun : goal.returns-clause-begun
+returns-clause-begun c =
     let top = c.args.«cap» in
     let xs = c.args.needs.now in
     let told = c.in_ok-needs.ensures in
     let taken = sym told.answer in
     let ys = listed c.in_ok-needs.needs in
-    let sizes = sizes_kept top xs ys told.made (taken_sizes top xs taken) in
-    let most = most_kept top xs ys told.made (needs_most top xs (taken_needs top xs taken)) in
-    record {
-      answer = told.answer;
-      made = begun_ring top (length ys) ys refl c.new-ring.result sizes.3 c.new-ring.ensures.full ∙ ap (new_table top) told.made;
-      begun = new_ring top (length ys) ys refl c.new-ring.result sizes most c.new-ring.ensures.held c.new-ring.ensures.full;
-    }
+    new_ring top (length ys) ys refl c.new-ring.result
+    (sizes_kept top xs ys told.made (taken_sizes top xs taken))
+    (most_kept top xs ys told.made (needs_most top xs (taken_needs top xs taken)))
+    c.new-ring.ensures.held
+    c.new-ring.ensures.full

@@ -13,14 +13,9 @@ invariant_of-self c =
     let below = admitted_cap (table_meaning s) c.args.level (sym told.answer) in
     record { sizes = s.sizes; most = s.most; held = c.push.ensures.held s.«cap» s.held (omega (arith, below, told.value)) }
 
-pub returns : goal.returns
-returns c =
+pub returns-clause-after : goal.returns-clause-after
+returns-clause-after c =
     let s = c.args.self.now in
-    let told = c.in_ok-level.ensures in
     let xs = listed s.needs in
-    record {
-      answer = told.answer;
-      after =
-          granted_ring s.«cap» (length xs) xs refl s.ring c.push.new.self c.in_ok-level.level s.sizes.3 c.push.ensures.after
-          ∙ ap (granted (table_meaning s)) told.value;
-    }
+    granted_ring s.«cap» (length xs) xs refl s.ring c.push.new.self c.in_ok-level.level s.sizes.3 c.push.ensures.after
+    ∙ ap (granted (table_meaning s)) c.in_ok-level.ensures.value
