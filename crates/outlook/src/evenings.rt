@@ -17,7 +17,7 @@ pub struct Evening<C> {
     evening: evening::Evening<C>,
     // The levels granted, oldest first.
     levels: Vec<u32>,
-    // That the levels kept the contract is no fact of the type: an evening may begin on one that is not new.
+    // As many as the evening has counted. That they kept the contract is no fact of the type: it may not have been new.
     ghost told: { evening.slots ≡ length levels.items },
 }
 

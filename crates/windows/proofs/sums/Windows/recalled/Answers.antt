@@ -1,6 +1,6 @@
-use Rattle.std.proofs.Common.{◌≡◌, ℕ, suc, ◌+◌, ◌-◌, ◌*◌, ◌<◌, ◌≤◌, ◌≢◌, List, length, get_or, drop, replicate, set, sym, refl, ap, ◌∙◌, add-one, arith, below_more}
-use Rattle.std.proofs.lemmas.List.{get_or-set_same, get_or-set_other, get_or_append_left, length-take}
-use Rattle.contract.specs.Meaning.{memory, back, newest}
+use Rattle.std.proofs.Common.{◌≡◌, ℕ, suc, ◌+◌, ◌-◌, ◌*◌, ◌<◌, ◌≤◌, ◌≢◌, length, get_or, set, sym, refl, ap, ◌∙◌, add-one, arith, below_more}
+use Rattle.std.proofs.lemmas.List.{get_or-set_same, get_or-set_other}
+use Rattle.contract.specs.Meaning.{back, newest}
 use Rattle.contract.proofs.Levels.{newest_more}
 use Rattle.windows.proofs.Reading.{low_set, low_start, low_front}
 use Rattle.windows.proofs.sums.Windows.recalled.Goals as goal
@@ -34,14 +34,3 @@ loop-k-preserved g c =
 
 pub invariant_of-result : goal.invariant_of-result
 invariant_of-result g c = record { low = low_front c.loop-k.sum-items (c.len.result - 1) 96 c.loop-k.invariant.low }
-
-pub returns : goal.returns
-returns g c =
-    let m = g.C.Contract.meaning c.args.contract.now in
-    let xs = c.loop-k.sum-items in
-    record {
-      conditions = c.of-conditions.ensures;
-      sums = λ k (h : suc k < memory m).
-          let within : k < length xs = omega (arith, ap (λ (ns : List ℕ). length ns) c.of-conditions.ensures.1, length-take {A = ℕ} (c.len.result - 1) (replicate 96 0), c.loop-k.auto.sum-items, c.len.ensures.value, c.len.ensures.fits) in
-          get_or_append_left xs (drop (c.len.result - 1) (replicate 96 0)) 0 k within ∙ c.loop-k.invariant.sums k (omega arith);
-    }
