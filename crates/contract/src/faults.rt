@@ -88,7 +88,6 @@ impl Layer {
     }
 }
 
-// Written out, as `thiserror` derives no contract, and the bytes are promised.
 impl fmt::Display for Layer {
     ghost output = { λ x. Some (layer_name x) };
 
@@ -110,6 +109,7 @@ impl fmt::Display for Code {
     }
 }
 
+// Written out, as `thiserror` derives no contract, and the bytes are promised.
 impl fmt::Display for Fault {
     ghost output = { λ x. Some (code_text (code x)) };
 

@@ -43,6 +43,7 @@ pub trait Contract {
     {
         let mut owed = 0u32;
         let mut recent = 0u32;
+        // Length by length: a contract answers for one at a time, and lends no list.
         for k in 1..=self.memory() {
             owed = owed.max(self.need(k).saturating_sub(recent));
             recent += self.back(k);

@@ -82,6 +82,7 @@ impl Contract for Switch {
         self.ring.back(self.memory, slots)
     }
 
+    // In the same words as the table: one call in the trait, that took any level, would ask its caller for the test.
     fn grant(&mut self, level: u64) -> Result<(), Fault> {
         let level = self.admit(level)?;
         self.ring.push(level);

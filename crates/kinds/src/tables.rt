@@ -11,7 +11,7 @@ use crate::needs::Needs;
 use crate::rings::Ring;
 use contract::{Contract, Fault};
 
-// Every window is owed what the caller has listed for its length.
+// Every window is owed what the caller has listed for its length. A type of its own beside the switch, and why is told there.
 #[derive(Drop)]
 pub struct Table {
     cap: u32,
@@ -66,7 +66,7 @@ impl Contract for Table {
         self.ring.back(self.needs.count(), slots)
     }
 
-    // In the same words as the switch: one call in the trait, that took any level, would ask its caller for the test.
+    // In the same words as the switch, and why is told there.
     fn grant(&mut self, level: u64) -> Result<(), Fault> {
         let level = self.admit(level)?;
         self.ring.push(level);

@@ -42,7 +42,8 @@ fn recalls_under_cap<C: Contract>(contract: &C) -> bool
 impl<C: Contract, N: OwnNeeds + Drop> Over<C, N> {
     ghost use Rattle.layers.specs.Layers.{Answers};
 
-    // Needs that were refused, or a contract that recalls a level under the cap, make no layer.
+    // Needs that were refused, or a contract that recalls a level under the cap, make no layer. Both kinds of `new` hand on
+    // these clauses in their own words.
     pub fn lay(below: C, own: Result<N, Fault>) -> Result<Over<C, N>, Returned<C>>
         ensures answer { Answers result (or_else (refusal own) (recalled_refusal (C.meaning below))) }
         ensures fault { IfErr result (λ e. (own ≡ Err e.fault) ⊎ (e.fault ≡ NotNew)) }

@@ -35,7 +35,7 @@ impl From<ListFault> for Code {
 }
 
 impl ListFault {
-    // The row of the fault table, as `code` of a `Fault` gives it.
+    // The row of the fault table, as `code` of a `Fault` gives it; callers know it by this name.
     pub fn row(self) -> Code
         ensures { result ≡ row self }
     {
