@@ -81,6 +81,20 @@ def clauses():
             yield f"parameters of {len(names)}: {a[0]}: {a[1]}, {b[0]}: {b[1]}  ({', '.join(n.split()[1] for n in names)})"
 
 
+def alike():
+    """Pairs of files of which six lines on end have one shape, imports and comments left out."""
+    seen = {}
+    for f in tracked("crates/*.rt", "crates/*.antt"):
+        if not Path(f).exists():
+            continue
+        rows = [re.sub(r"\s+", " ", row.strip()) for row in Path(f).read_text().splitlines()]
+        rows = [row for row in rows if len(row) > 2 and not re.match(r"//|--|(ghost )?(pub )?use |(pub )?mod |#", row)]
+        rows = [re.sub(r"[A-Za-z_][\w«»'-]*", "I", re.sub(r'"[^"]*"|\b\d[\d_]*\b', "N", row)) for row in rows]
+        for i in range(len(rows) - 5):
+            seen.setdefault("\n".join(rows[i:i + 6]), set()).add(f)
+    yield from sorted({f"{a} ~ {b}" for files in seen.values() if len(files) < 9 for a, b in combinations(sorted(files), 2)})
+
+
 def proofs():
     answers = lemmas = size = 0
     for f in tracked("crates/*/proofs/*.antt", "crates/*/proofs/**/*.antt", "crates/*/specs/*.antt"):
@@ -117,6 +131,8 @@ KINDS = {
     "buffers": lambda: (row for row in lines(r"\[\w+; (\d|[A-Z])[\w_]*\]") if not row.startswith(("crates/checks", "crates/audits"))),
     # 7: step switches, tables of functions
     "steps": lambda: lines(r"\bdyn |: fn\(|Box<|\bimpl Fn|match (step|op|kind|mode)\b"),
+    # another way: files that are alike in shape
+    "alike": alike,
     # 8: proofs
     "proofs": proofs,
 }
