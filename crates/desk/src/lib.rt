@@ -1,8 +1,9 @@
 // What the programs share: terms from the command line, the lines of the input, and how a program ends.
 #![tactic(auto)]
 
-ghost use Rattle.std.specs.Prelude.{◌≡◌, map, string_bytes, MatchOption, MatchResult};
+ghost use Rattle.std.specs.Prelude.{◌≡◌, ℕ, List, map, string_bytes, IfOk, IfSome, OnOk, MatchOption, MatchResult};
 ghost use Rattle.std.specs.Process.{exit_status};
+ghost use Rattle.std.specs.Io.KnownBytes.{IsAtEnd};
 ghost use Rattle.evening.specs.declared.terms.Terms.{Terms};
 ghost use Rattle.desk.specs.Words.{GivesTerms};
 
@@ -10,7 +11,7 @@ use anyhow::anyhow;
 use evening::{Terms, number_of};
 use std::env;
 use std::fmt::Display;
-use std::io::{BufRead, BufReader, Read};
+use std::io::BufRead;
 use std::process::ExitCode;
 use std::rt::Env;
 
@@ -33,32 +34,34 @@ pub fn terms_of(words: &[String]) -> Option<Terms>
     }
 }
 
-// The terms that the command line gives. No clause: nothing is known of its words.
-pub fn read_terms(rt: &(impl Env + AllocGlobal)) -> anyhow::Result<Terms> {
+// The terms that the command line gives: those of some words, whatever its words may be.
+pub fn read_terms(rt: &(impl Env + AllocGlobal)) -> anyhow::Result<Terms>
+    ensures { IfOk result (λ terms. (words : List (List ℕ)) × GivesTerms words terms) }
+{
     let words: Vec<String> = env::args(rt)?.skip(1).collect(rt.alloc())?;
     terms_of(&words).ok_or_else(|| anyhow!("{USAGE}"))
 }
 
-// Hands each line of the input to `answer`, with its number from 1, and prints what is answered. No clause: nothing is known of
-// what is read, and what is printed leaves no value.
-pub fn answer_lines<I: Read + Drop, A: Display + Drop, F: FnMut(u64, &[u8]) -> anyhow::Result<A>>(
+// Hands each line of the input to `answer`, with its number from 1, and prints what is answered. `Ok` says that nothing of the
+// input is left, where it is known what there was; of standard input it is not.
+pub fn answer_lines<I: BufRead, A: Display + Drop, F: FnMut(u64, &[u8]) -> anyhow::Result<A>>(
     rt: &(impl Print + AllocGlobal),
-    input: I,
+    input: &mut I,
     mut answer: F,
 ) -> anyhow::Result<()>
     requires { F.IsAlwaysCallable answer }
+    ensures { OnOk result (IfSome (I.remaining input.old) (λ _. IsAtEnd (I.remaining input.new))) }
 {
-    let mut input = BufReader::new(rt.alloc(), input)?;
     let mut line = Vec::new(rt.alloc());
     // Nothing says that an input ends, so the lines are counted; `lines` would drop the line feed, which a level needs.
     for count in 1..u64::MAX {
         line.clear();
         if input.read_until(b'\n', &mut line)? == 0 {
-            break;
+            return Ok(());
         }
         rt.println(answer(count, &line)?)?;
     }
-    Ok(())
+    Err(anyhow!("more lines than can be counted"))
 }
 
 // The status that a program ends with; an error is told on the way.

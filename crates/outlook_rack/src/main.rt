@@ -6,6 +6,7 @@ use contract::Contract;
 use desk::{answer_lines, exit_code, read_terms};
 use evening::opening;
 use outlook::{Evening, Reply};
+use std::io::BufReader;
 use std::process::ExitCode;
 
 // How many slots the forecast at the end goes ahead.
@@ -25,9 +26,10 @@ fn run(rt: &HostRuntime) -> anyhow::Result<()> {
     let contract = read_terms(rt)?.agree()?;
     rt.println(opening(&contract))?;
     let mut evening = Evening::new(rt.alloc(), contract);
+    let mut input = BufReader::new(rt.alloc(), rt.stdin())?;
     answer_lines(
         rt,
-        rt.stdin(),
+        &mut input,
         |count, line| Ok(evening.answer(count, line)?),
     )?;
     show_forecast(rt, &evening)?;

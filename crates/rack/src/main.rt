@@ -3,15 +3,17 @@
 
 use desk::{answer_lines, exit_code, read_terms};
 use evening::{Evening, opening};
+use std::io::BufReader;
 use std::process::ExitCode;
 
 fn run(rt: &HostRuntime) -> anyhow::Result<()> {
     let contract = read_terms(rt)?.agree()?;
     rt.println(opening(&contract))?;
     let mut evening = Evening::new(contract);
+    let mut input = BufReader::new(rt.alloc(), rt.stdin())?;
     answer_lines(
         rt,
-        rt.stdin(),
+        &mut input,
         |count, line| Ok(evening.answer(count, line)),
     )?;
     rt.println(evening.end())?;
