@@ -8,7 +8,9 @@ ghost use Rattle.evening.specs.declared.terms.Terms.{Terms};
 ghost use Rattle.desk.specs.Words.{GivesTerms};
 
 use anyhow::anyhow;
+use arrayvec::ArrayVec;
 use evening::{Terms, number_of};
+use std::alloc::Global;
 use std::env;
 use std::fmt::Display;
 use std::io::BufRead;
@@ -38,7 +40,9 @@ pub fn terms_of(words: &[String]) -> Option<Terms>
 pub fn read_terms(rt: &(impl Env + AllocGlobal)) -> anyhow::Result<Terms>
     ensures { IfOk result (λ terms. (words : List (List ℕ)) × GivesTerms words terms) }
 {
-    let words: Vec<String> = env::args(rt)?.skip(1).collect(rt.alloc())?;
+    // Five words are too many already. They lie here, so that no more memory can be wanting however many there are.
+    let mut words = ArrayVec::<String, 5, Global>::new_in(rt.alloc());
+    words.extend(env::args(rt)?.skip(1).take(5))?;
     terms_of(&words).ok_or_else(|| anyhow!("{USAGE}"))
 }
 

@@ -30,6 +30,8 @@ impl OwnNeeds for Needs {
 }
 
 // Needs that fit below: no more of them than its memory, and each within its limit.
+// Inlined, the needs would be moved word by word between two shapes of `Result`, which takes longer than the call.
+#[inline(never)]
 fn needs_over<C: Contract>(below: &C, needs: &[u64]) -> Result<Needs, Fault>
     ensures answer { refusal result ≡ refuse_if (outside 1 96 (length needs.now) || nat_lt (memory (C.meaning below.now)) (length needs.now)) (contract_fault 4 0) (too_great (C.meaning below.now).«cap» 1 needs.now) }
     ensures made { IfOk result (λ n. listed n ≡ needs.now) }

@@ -12,6 +12,18 @@ none : (ns : List ℕ) → best ns [] ≡ 0
 none [] = refl
 none (n ∷ ns) = refl
 
+-- parts longer than the whole do not count
+pub best_whole : (ns cs : List ℕ) (k j : ℕ) → length cs ≤ k → k ≤ j → best (take k ns) cs ≡ best (take j ns) cs
+best_whole ns [] k j h l = none (take k ns) ∙ sym (none (take j ns))
+best_whole [] (c ∷ cs) k j h l = ap (λ (xs : List ℕ). best xs (c ∷ cs)) (empty k ∙ sym (empty j))
+  where
+    empty : (i : ℕ) → ◌≡◌ {A = List ℕ} (take i []) []
+    empty zero = refl
+    empty (suc i) = refl
+best_whole (n ∷ ns) (c ∷ cs) zero j h l = absurd (omega arith)
+best_whole (n ∷ ns) (c ∷ cs) (suc k) zero h l = absurd (omega arith)
+best_whole (n ∷ ns) (c ∷ cs) (suc k) (suc j) h l = ap (λ (t : ℕ). max (n + c) t) (best_whole ns cs k j (omega arith) (omega arith))
+
 whole_part : (ns cs : List ℕ) → max (get_or ns (length cs) 0) (best ns cs) ≡ best ns (cs ++ (0 ∷ []))
 whole_part [] cs = refl
 whole_part (n ∷ ns) [] = omega (arith, none ns)
@@ -41,7 +53,7 @@ best_all ns cs most all done e = omega (arith, e, left ns cs done)
     left (n ∷ ns) (c ∷ cs) (inr e) = absurd (omega arith)
 
 -- the curve at every shorter length, longest first, is what was written so far, and 0 at length 0
-curves_written : (m : Meaning) (xs : List ℕ) (i : ℕ) → i ≤ length xs → ((k : ℕ) → k < i → get_or xs k 0 ≡ curve m (suc k)) → reverse (take i xs) ++ (0 ∷ []) ≡ curves m i
+pub curves_written : (m : Meaning) (xs : List ℕ) (i : ℕ) → i ≤ length xs → ((k : ℕ) → k < i → get_or xs k 0 ≡ curve m (suc k)) → reverse (take i xs) ++ (0 ∷ []) ≡ curves m i
 curves_written m xs zero h same = refl
 curves_written m xs (suc i) h same =
     ap (λ (t : ℕ). reverse (take t xs) ++ (0 ∷ [])) (sym (add-one i))

@@ -5,8 +5,9 @@ use Rattle.std.proofs.lemmas.Bool.{cases_eq}
 use Rattle.std.proofs.lemmas.List.Sums.{sum_by-cons}
 use Rattle.contract.specs.Meaning.{Meaning, memory, greatest, newest, owed, lowest, granted}
 use Rattle.curve.specs.Lawful.{energy}
-use Rattle.windows.specs.Sums.{Copies, Recent, Ending, Slid, owed_by}
+use Rattle.windows.specs.Sums.{Recent, Ending, Slid, owed_by}
 use Rattle.windows.specs.Windows.{Recalled, lengths}
+use Rattle.windows.specs.declared.conditions.Conditions.{Conditions}
 use Rattle.windows.specs.declared.sums.Windows.{Windows}
 
 -- the sum of the i newest levels written to its place
@@ -26,7 +27,7 @@ newest-granted m x k h =
     ap sum (take-take (suc k) (memory m - 1) (x ∷ m.recall) (omega arith)) ∙ sum_by-cons (λ y. y) x (take k m.recall)
 
 -- sums of recalled levels slide with a grant
-recent_slid : (m : Meaning) (x : ℕ) (old new : List ℕ) → Slid x (memory m) old new → Recent m old → Recent (granted m x) new
+pub recent_slid : (m : Meaning) (x : ℕ) (old new : List ℕ) → Slid x (memory m) old new → Recent m old → Recent (granted m x) new
 recent_slid m x old new slid recent zero h = slid 0 (omega arith) ∙ sym (newest-granted m x 0 h)
 recent_slid m x old new slid recent (suc k) h =
     slid (suc k) (omega arith) ∙ ap (λ (t : ℕ). x + t) (recent k (omega arith)) ∙ sym (newest-granted m x (suc k) h)
@@ -48,9 +49,9 @@ greatest_same f h zero same = refl
 greatest_same f h (suc n) same = omega (arith, same n (omega arith), greatest_same f h n (λ k l. same k (omega arith)))
 
 -- the lowest level by the conditions and the sums that were read
-pub lowest_read : (m : Meaning) (w : Windows) → Recalled m w → min w.conditions.«cap» (greatest (owed_by w.conditions.needs.items w.sums) (lengths w)) ≡ lowest m
-lowest_read m w r =
-    ap (λ (t : ℕ). min t (greatest (owed_by w.conditions.needs.items w.sums) (lengths w))) r.conditions.0
+pub lowest_read : (m : Meaning) (c : Conditions) (w : Windows) → Recalled m c w → min c.«cap» (greatest (owed_by c.needs.items w.sums) (lengths c)) ≡ lowest m
+lowest_read m c w r =
+    ap (λ (t : ℕ). min t (greatest (owed_by c.needs.items w.sums) (lengths c))) r.conditions.0
     ∙ ap (λ (ns : List ℕ). min m.«cap» (greatest (owed_by ns w.sums) (length ns))) r.conditions.1
     ∙ ap (min m.«cap») (greatest_same (owed_by m.needs w.sums) (owed m) (memory m) same)
   where
@@ -61,9 +62,9 @@ lowest_read m w r =
         rw d (omega (arith, r.sums k l))
 
 -- a grant of x leaves the windows that have slid by x
-pub recalled_slid : (m : Meaning) (x : ℕ) (old new : Windows) → new.conditions ≡ old.conditions → Slid x (lengths old) old.sums new.sums → Recalled m old → Recalled (granted m x) new
-recalled_slid m x old new kept slid r = record {
-  conditions = subst (Copies m) (sym kept) r.conditions;
+pub recalled_slid : (m : Meaning) (c : Conditions) (x : ℕ) (old new : Windows) → Slid x (lengths c) old.sums new.sums → Recalled m c old → Recalled (granted m x) c new
+recalled_slid m c x old new slid r = record {
+  conditions = r.conditions;
   sums = recent_slid m x old.sums new.sums (subst (λ (ns : List ℕ). Slid x (length ns) old.sums new.sums) r.conditions.1 slid) r.sums;
 }
 

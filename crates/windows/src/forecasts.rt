@@ -4,6 +4,7 @@ ghost use Rattle.std.specs.Result.{result_err};
 ghost use Rattle.windows.specs.Forecasts.{forecast_energy, forecast_refusal, list_after};
 ghost use Rattle.windows.specs.Planned.{ContractPromise, Foreseen};
 
+use crate::conditions::Conditions;
 use crate::refusals::ListFault;
 use crate::sums::Windows;
 use contract::Contract;
@@ -22,10 +23,11 @@ pub fn forecast<C: Contract>(contract: &C, slots: u64, list: &mut [u32]) -> Resu
     if slots > SLOTS_MOST || slots > list.len() as u64 {
         return Err(ListFault::TooFar);
     }
+    let conditions = Conditions::of(contract);
     let mut windows = Windows::recalled(contract);
     let mut energy = 0;
     for place in list[..slots as usize].iter_mut() {
-        let level = windows.advance();
+        let level = windows.advance(&conditions);
         *place = level;
         energy += level;
     }

@@ -27,16 +27,21 @@ fn first_place_above(cap: u32, record: &[u32]) -> Option<usize>
 }
 
 // The tightest window so far, with those that end in slot `end` looked at too. Of equals the older one stays.
-fn tighter(windows: &Windows, end: u32, so_far: Option<Tightest>) -> Tightest
-    ensures { Chosen (margin_of windows.now) (lengths windows.now) end so_far result }
+fn tighter(
+    windows: &Windows,
+    conditions: &Conditions,
+    end: u32,
+    so_far: Option<Tightest>,
+) -> Tightest
+    ensures { Chosen (margin_of conditions.now windows.now) (lengths conditions.now) end so_far result }
 {
-    let margin = windows.least_margin();
+    let margin = windows.least_margin(conditions);
     match so_far {
         Some(tightest) if tightest.margin <= margin => tightest,
         _ => Tightest {
             margin,
             end,
-            length: windows.shortest(margin),
+            length: windows.shortest(conditions, margin),
         },
     }
 }
@@ -63,12 +68,12 @@ pub fn verdict<C: Contract>(contract: &C, record: &[u32]) -> Result<Verdict, Lis
     if record.len() > LEVELS_MOST {
         return Err(ListFault::TooLong);
     }
-    let mut windows = Windows::at_cap(conditions);
+    let mut windows = Windows::at_cap(&conditions);
     let mut tightest = None;
     // A `for` over the record with its slots, and the sums beside, by a rule of the project.
     for (i, level) in record.iter().enumerate() {
-        windows.slide(*level);
-        tightest = Some(tighter(&windows, i as u32 + 1, tightest));
+        windows.slide(&conditions, *level);
+        tightest = Some(tighter(&windows, &conditions, i as u32 + 1, tightest));
     }
     Ok(decided(tightest))
 }

@@ -18,7 +18,7 @@ loop-place-preserved g c =
     let low : c.advance-level.result ≡ lowest (ahead m i) = c.advance-level.ensures.value (ahead m i) inv.windows in
     let next = energy_more m i in
     record {
-      windows = subst (λ (t : Meaning). Recalled t c.advance-level.new.self) (sym (ahead_more m i)) (c.advance-level.ensures.after (ahead m i) inv.windows);
+      windows = subst (λ (t : Meaning). Recalled t c.of-conditions.result c.advance-level.new.self) (sym (ahead_more m i)) (c.advance-level.ensures.after (ahead m i) inv.windows);
       energy = omega (arith, next, low, inv.energy);
       most = omega (arith, c.advance-level.ensures.level, inv.most);
       written = write_more m _ c.loop-place.place-items i c.advance-level.result inv.written low (omega arith);

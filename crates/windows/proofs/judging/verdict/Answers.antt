@@ -15,9 +15,8 @@ loop-i-init g c =
     let read = c.of-conditions.ensures in
     record {
       tightest = refl;
-      conditions = subst (Copies m) (sym c.at_cap-windows.ensures.conditions) read;
       sums = λ k (h : k < memory m).
-          c.at_cap-windows.ensures.sums k (omega (arith, s.memory_most)) ∙ ap (λ (t : ℕ). suc k * t) read.0 ∙ sym (energy_past m.«cap» (suc k));
+          c.at_cap-windows.ensures k (omega (arith, s.memory_most)) ∙ ap (λ (t : ℕ). suc k * t) read.0 ∙ sym (energy_past m.«cap» (suc k));
     }
 
 pub slide-requires : goal.slide-requires
@@ -33,11 +32,11 @@ loop-i-preserved g c =
     let inv = c.loop-i.invariant in
     let old = c.loop-i.windows in
     let new = c.slide.new.self in
-    let copies : Copies m new.conditions = subst (Copies m) (sym c.slide.ensures.conditions) inv.conditions in
-    let ending = ending_slid m xs i old.sums new.sums (omega arith) (subst (λ (ns : List ℕ). Slid (get_or xs i 0) (length ns) old.sums new.sums) inv.conditions.1 c.slide.ensures.sums) inv.sums in
+    let conditions = c.of-conditions.result in
+    let copies : Copies m conditions = c.of-conditions.ensures in
+    let ending = ending_slid m xs i old.sums new.sums (omega arith) (subst (λ (ns : List ℕ). Slid (get_or xs i 0) (length ns) old.sums new.sums) copies.1 c.slide.ensures) inv.sums in
     record {
-      tightest = tightest_more m xs i (lengths new) (margin_of new) (ap (λ (ns : List ℕ). length ns) copies.1) (margin_read m xs (i + 1) new.conditions.needs.items new.sums copies.1 ending) c.loop-i.tightest c.tighter.result inv.tightest c.tighter.ensures;
-      conditions = copies;
+      tightest = tightest_more m xs i (lengths conditions) (margin_of conditions new) (ap (λ (ns : List ℕ). length ns) copies.1) (margin_read m xs (i + 1) conditions.needs.items new.sums copies.1 ending) c.loop-i.tightest c.tighter.result inv.tightest c.tighter.ensures;
       sums = ending;
     }
 

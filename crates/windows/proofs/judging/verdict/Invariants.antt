@@ -1,5 +1,5 @@
 use Rattle.std.proofs.Common.{reverse, take}
-use Rattle.windows.specs.Sums.{Copies, Ending}
+use Rattle.windows.specs.Sums.{Ending}
 use Rattle.windows.specs.Verdicts.{Tells}
 use Rattle.windows.proofs.judging.verdict.Given as goal
 
@@ -9,6 +9,5 @@ invariant-loop-i g l =
     let m = g.C.Contract.meaning l.contract in
     record {
       tightest : Tells m l.«record» l.i l.tightest;
-      conditions : Copies m l.windows.conditions;
       sums : Ending m (reverse (take l.i l.«record»)) l.windows.sums;
     }

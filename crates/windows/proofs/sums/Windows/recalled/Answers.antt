@@ -6,7 +6,7 @@ use Rattle.windows.proofs.Reading.{low_set, low_start, low_front}
 use Rattle.windows.proofs.sums.Windows.recalled.Goals as goal
 
 pub loop-k-init : goal.loop-k-init
-loop-k-init g c = record { recent = refl; most = omega arith; sums = λ j (h : j < 0). absurd (omega arith); low = low_start (c.len.result - 1) 96 }
+loop-k-init g c = record { recent = refl; most = omega arith; sums = λ j (h : j < 0). absurd (omega arith); low = low_start (c.memory.result - 1) 96 }
 
 pub loop-k-preserved : goal.loop-k-preserved
 loop-k-preserved g c =
@@ -33,4 +33,4 @@ loop-k-preserved g c =
     }
 
 pub invariant_of-result : goal.invariant_of-result
-invariant_of-result g c = record { low = low_front c.loop-k.sum-items (c.len.result - 1) 96 c.loop-k.invariant.low }
+invariant_of-result g c = record { low = low_front c.loop-k.sum-items (c.memory.result - 1) 96 c.loop-k.invariant.low }
