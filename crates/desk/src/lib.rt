@@ -1,7 +1,8 @@
 // What the programs share: terms from the command line, the lines of the input, and how a program ends.
 #![tactic(auto)]
 
-ghost use Rattle.std.specs.Prelude.{◌≡◌, ℕ, List, map, string_bytes, IfOk, IfSome, OnOk, MatchOption, MatchResult};
+ghost use Rattle.std.specs.Prelude.{◌≡◌, ℕ, List, map, take, string_bytes, IfOk, IfSome, OnOk, MatchOption, MatchResult};
+ghost use Rattle.std.specs.Vec.Iter.{into_iter_items};
 ghost use Rattle.std.specs.Process.{exit_status};
 ghost use Rattle.std.specs.Io.KnownBytes.{IsAtEnd};
 ghost use Rattle.evening.specs.declared.terms.Terms.{Terms};
@@ -36,14 +37,33 @@ pub fn terms_of(words: &[String]) -> Option<Terms>
     }
 }
 
+// The first words, five at most.
+fn first_words(heap: Global, words: env::Args) -> ArrayVec<String, 5, Global>
+    ensures { result.items ≡ take 5 (into_iter_items words) }
+{
+    let mut first = ArrayVec::new_in(heap);
+    for word in words.take(5) {
+        first.push(word);
+    }
+    first
+}
+
+// The terms that all the words give. Five are too many already, and no more are kept, in no memory but the call's own: so
+// none can be wanting, however many words there are.
+#[tactic(auto, using(crate::proofs::Firsts::five_give, crate::proofs::Firsts::all_give))]
+fn terms_of_all(heap: Global, words: env::Args) -> Option<Terms>
+    ensures { MatchOption result ((terms : Terms) → GivesTerms (map string_bytes (into_iter_items words)) terms → ⊥) (GivesTerms (map string_bytes (into_iter_items words))) }
+{
+    terms_of(&first_words(heap, words))
+}
+
 // The terms that the command line gives: those of some words, whatever its words may be.
 pub fn read_terms(rt: &(impl Env + AllocGlobal)) -> anyhow::Result<Terms>
     ensures { IfOk result (λ terms. (words : List (List ℕ)) × GivesTerms words terms) }
 {
-    // Five words are too many already. They lie here, so that no more memory can be wanting however many there are.
-    let mut words = ArrayVec::<String, 5, Global>::new_in(rt.alloc());
-    words.extend(env::args(rt)?.skip(1).take(5))?;
-    terms_of(&words).ok_or_else(|| anyhow!("{USAGE}"))
+    let mut words = env::args(rt)?;
+    let _program = words.next();
+    terms_of_all(rt.alloc(), words).ok_or_else(|| anyhow!("{USAGE}"))
 }
 
 // Hands each line of the input to `answer`, with its number from 1, and prints what is answered. `Ok` says that nothing of the
